@@ -1,0 +1,67 @@
+-- The station's run: document 01, "The run". Jobs are numbered from 1 in list order; `ready j` is job j's ready minute
+-- and `minutes j` what it has to read. The log is defined from these, and everything else from the log.
+use Prim.Native.Nat.{ℕ, zero, suc, _+_, _-_}
+use mathlib.Core.Bool.{Bool, true, false, cond, _&&_, not}
+use mathlib.Core.List.{List, [], _∷_, _++_}
+use lib.Dec.{ltb, leb, eqb}
+use Rattle.edf.specs.declared.Outcome.{Outcome}
+use Rattle.edf.specs.declared.Outcome.the-variants.{SetAside, Finished, Unfinished}
+
+-- how many entries of a log are j
+unfoldable pub entries : ℕ → List ℕ → ℕ
+entries j [] = 0
+entries j (x ∷ xs) = cond (eqb x j) 1 0 + entries j xs
+
+-- the minutes of job j that a log has not read
+unfoldable pub minutesLeft : (minutes : ℕ → ℕ) → List ℕ → ℕ → ℕ
+minutesLeft minutes log j = minutes j - entries j log
+
+-- the first of two numbers that is not 0
+abbrev pub orElse : ℕ → ℕ → ℕ
+orElse zero b = b
+orElse (suc a) b = suc a
+
+-- "the first batch in list order that has s at or before this minute and minutes left to read", of jobs 1 to i; 0 for none
+unfoldable pub firstOpen : (ready left : ℕ → ℕ) → ℕ → ℕ → ℕ
+firstOpen ready left m zero = 0
+firstOpen ready left m (suc i) =
+    orElse (firstOpen ready left m i) (cond (leb (ready (suc i)) m && ltb 0 (left (suc i))) (suc i) 0)
+
+-- "Entry m of a lent log of bytes, from 0, is the position of the batch read in minute t + m, or 0 for an idle minute":
+-- the log of w minutes from minute t, for jobs 1 to n
+unfoldable pub logOf : (n : ℕ) (ready minutes : ℕ → ℕ) (t w : ℕ) → List ℕ
+logOf n ready minutes t zero = []
+logOf n ready minutes t (suc w) =
+    logOf n ready minutes t w
+    ++ (firstOpen ready (minutesLeft minutes (logOf n ready minutes t w)) (t + w) n ∷ [])
+
+-- "It answers the idle minutes."
+unfoldable pub idle : List ℕ → ℕ
+unfolding entries
+idle log = entries 0 log
+
+-- "the minutes with an entry other than 0 that are the first or differ from the entry before", p being the entry before
+unfoldable pub changesAfter : ℕ → List ℕ → ℕ
+changesAfter p [] = 0
+changesAfter p (x ∷ xs) = cond (not (eqb x 0) && not (eqb x p)) 1 0 + changesAfter x xs
+
+-- the first minute counts as after an idle one
+unfoldable pub changes : List ℕ → ℕ
+unfolding changesAfter
+changes log = changesAfter 0 log
+
+-- how many entries there are up to the last that is j; 0 if none is
+unfoldable pub upToLast : ℕ → List ℕ → ℕ
+upToLast j [] = 0
+upToLast j (x ∷ xs) = oneMore (eqb x j) (upToLast j xs)
+  where
+    oneMore : Bool → ℕ → ℕ
+    oneMore here zero = cond here 1 0
+    oneMore here (suc n) = suc (suc n)
+
+-- "set aside; finished, with the minute after its last; unfinished, with the minutes left": of job j, which has m minutes to
+-- read, after a log that starts at minute t
+unfoldable pub outcomeOf : (aside : Bool) (m t : ℕ) → List ℕ → ℕ → Outcome
+unfolding entries upToLast
+outcomeOf aside m t log j =
+    cond aside SetAside (cond (leb m (entries j log)) (Finished (t + upToLast j log)) (Unfinished (m - entries j log)))

@@ -1,0 +1,9 @@
+pub mod Places
+pub mod Rules
+pub mod Named
+pub mod Pass
+pub mod Sums
+pub mod FirstBest
+pub mod Programme
+pub mod FirstChoice
+pub mod Demand

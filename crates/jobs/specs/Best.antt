@@ -1,0 +1,60 @@
+-- The best choice, over every choice and the rule: no search is mentioned here.
+use Prim.Native.Nat.{ℕ, suc, _<_}
+use mathlib.Core.Path.{_≡_}
+use mathlib.Core.Logic.{_⊎_}
+use mathlib.Core.Bool.{Bool, true, cond}
+use mathlib.Core.List.{List, [], _∷_}
+use mathlib.Core.Option.{Option, none, some}
+use lib.Dec.{ltb}
+use Rattle.jobs.specs.declared.model.Job.{Job}
+use Rattle.jobs.specs.Rule.{meets}
+use Rattle.jobs.specs.Choice.{Valid, Higher, total, choices}
+
+-- the one of greater value; the first where the two tie
+abbrev pub greater : (List ℕ → ℕ) → Option (List ℕ) → Option (List ℕ) → Option (List ℕ)
+greater v none b = b
+greater v (some a) none = some a
+greater v (some a) (some b) = cond (ltb (v a) (v b)) (some b) (some a)
+
+-- a choice that passes a test
+abbrev pub passing : (List ℕ → Bool) → List ℕ → Option (List ℕ)
+passing p c = cond (p c) (some c) none
+
+-- the first of greatest value among the choices of a list that pass a test
+abbrev pub firstBest : (List ℕ → Bool) → (List ℕ → ℕ) → List (List ℕ) → Option (List ℕ)
+firstBest p v [] = none
+firstBest p v (c ∷ cs) = greater v (passing p c) (firstBest p v cs)
+
+-- 01: "Among the choices with the greatest total of those that meet the rule, the one taken has the lowest recipe
+-- number at the last batch, then at the one before, and so on to the first." x is the closing minute.
+unfoldable pub best : List Job → ℕ → Option (List ℕ)
+best js x = firstBest (meets js x) (total js) (choices js)
+
+-- demand 3: "The chosen plan meets the rule ..; every other choice that meets the rule has a smaller total, or the same
+-- total and a higher recipe number at the last batch where the two differ"
+pub record Chosen (js : List Job) (x : ℕ) (ch : List ℕ) : Type 0 where
+  pub valid : Valid js ch
+  pub meeting : meets js x ch ≡ true
+  pub others : (c : List ℕ) → Valid js c → meets js x c ≡ true → (c ≡ ch → ⊥) →
+      (total js c < total js ch) ⊎ ((total js c ≡ total js ch) × Higher ch c)
+
+-- 01, "The picks table": "the recipe that the best choice for batches 1 to i, with x as the closing minute, gives to
+-- batch i; it is 0 if no choice exists"
+abbrev pub headOr : List ℕ → ℕ
+headOr [] = 0
+headOr (k ∷ ks) = k
+
+abbrev pub lastVersion : Option (List ℕ) → ℕ
+lastVersion none = 0
+lastVersion (some c) = headOr c
+
+abbrev pub pick : List Job → ℕ → ℕ
+pick js x = lastVersion (best js x)
+
+-- 0 if no choice exists, else one more than the total: no choice is not a total of 0
+abbrev pub scoreBy : (List ℕ → ℕ) → Option (List ℕ) → ℕ
+scoreBy v none = 0
+scoreBy v (some c) = suc (v c)
+
+abbrev pub score : List Job → ℕ → ℕ
+score js x = scoreBy (total js) (best js x)

@@ -1,0 +1,5 @@
+pub mod Model
+pub mod Rule
+pub mod Choice
+pub mod Best
+pub mod Contract

@@ -1,0 +1,43 @@
+-- Versions by number, and the two directions of a list: list order in the arrays, the last first in the theory.
+use Prim.Native.Nat.{ℕ, zero, suc, _-_}
+use mathlib.Core.Bool.{false}
+use mathlib.Core.List.{List, [], _∷_, _++_}
+use lib.ListN.{length, getD, replicate}
+use Rattle.jobs.specs.declared.model.Version.{Version}
+use Rattle.jobs.specs.declared.model.Job.{Job}
+use Rattle.jobs.specs.declared.model.JobList.{JobList}
+
+-- what stands past the end of an array
+abbrev pub noVersion : Version
+noVersion = record { read = false; cost = 0; worth = 0 }
+
+abbrev pub noJob : Job
+noJob = record { ready = 0; due = 0; count = 0; versions = [] }
+
+-- 01: "recipes numbered from 1"
+abbrev pub versionOf : Job → ℕ → Version
+versionOf j zero = noVersion
+versionOf j (suc k) = getD (j .versions) k noVersion
+
+module _ {A : Type 0} where
+  -- the first i of an array, the last of them first
+  abbrev pub backward : A → List A → ℕ → List A
+  backward d xs zero = []
+  backward d xs (suc i) = getD xs i d ∷ backward d xs i
+
+  -- a list that stands last first, in list order
+  abbrev pub forward : List A → List A
+  forward [] = []
+  forward (x ∷ xs) = forward xs ++ (x ∷ [])
+
+  -- 01: "Places of an answer beyond n hold 0": an array of m, in list order, with d beyond
+  abbrev pub placed : ℕ → A → List A → List A
+  placed m d xs = forward xs ++ replicate (m - length xs) d
+
+-- the jobs of a list, the last first
+abbrev pub jobsOf : JobList → List Job
+jobsOf list = backward noJob (list .jobs) (list .count)
+
+-- the choice that an array holds for the jobs of a list, the last first
+abbrev pub chosen : JobList → List ℕ → List ℕ
+chosen list choice = backward 0 choice (list .count)
