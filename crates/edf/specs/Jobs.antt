@@ -1,6 +1,6 @@
 -- The run of a choice over a list of jobs, in list order.
 use Prim.Native.Nat.{ℕ, zero, suc}
-use mathlib.Core.Bool.{Bool, true, false, cond, not}
+use mathlib.Core.Bool.{cond, not}
 use mathlib.Core.List.{List, [], _∷_, map}
 use lib.ListN.{getD}
 use Rattle.jobs.specs.declared.model.Version.{Version}
@@ -35,7 +35,6 @@ runLog list choice t w =
 
 -- the outcome of the job of index i
 unfoldable pub runOutcome : JobList → List ℕ → ℕ → ℕ → ℕ → Outcome
-unfolding runLog
 runOutcome list choice t w i =
     outcomeOf (not (getD (versions (list .jobs) choice) i noVersion .read))
     (minutesOf (getD (versions (list .jobs) choice) i noVersion)) t (runLog list choice t w) (suc i)

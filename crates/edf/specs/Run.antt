@@ -1,7 +1,7 @@
 -- The station's run: document 01, "The run". Jobs are numbered from 1 in list order; `ready j` is job j's ready minute
 -- and `minutes j` what it has to read. The log is defined from these, and everything else from the log.
 use Prim.Native.Nat.{ℕ, zero, suc, _+_, _-_}
-use mathlib.Core.Bool.{Bool, true, false, cond, _&&_, not}
+use mathlib.Core.Bool.{Bool, cond, _&&_, not}
 use mathlib.Core.List.{List, [], _∷_, _++_}
 use lib.Dec.{ltb, leb, eqb}
 use Rattle.edf.specs.declared.Outcome.{Outcome}
@@ -37,7 +37,6 @@ logOf n ready minutes t (suc w) =
 
 -- "It answers the idle minutes."
 unfoldable pub idle : List ℕ → ℕ
-unfolding entries
 idle log = entries 0 log
 
 -- "the minutes with an entry other than 0 that are the first or differ from the entry before", p being the entry before
@@ -47,7 +46,6 @@ changesAfter p (x ∷ xs) = cond (not (eqb x 0) && not (eqb x p)) 1 0 + changesA
 
 -- the first minute counts as after an idle one
 unfoldable pub changes : List ℕ → ℕ
-unfolding changesAfter
 changes log = changesAfter 0 log
 
 -- how many entries there are up to the last that is j; 0 if none is
@@ -62,6 +60,5 @@ upToLast j (x ∷ xs) = oneMore (eqb x j) (upToLast j xs)
 -- "set aside; finished, with the minute after its last; unfinished, with the minutes left": of job j, which has m minutes to
 -- read, after a log that starts at minute t
 unfoldable pub outcomeOf : (aside : Bool) (m t : ℕ) → List ℕ → ℕ → Outcome
-unfolding entries upToLast
 outcomeOf aside m t log j =
     cond aside SetAside (cond (leb m (entries j log)) (Finished (t + upToLast j log)) (Unfinished (m - entries j log)))

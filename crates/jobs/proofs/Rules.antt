@@ -6,7 +6,8 @@ use mathlib.Core.Logic.{_↔_}
 use mathlib.Core.Bool.{Bool, true, false, cond, _&&_, false≢true}
 use mathlib.Core.List.{List, [], _∷_}
 use lib.ListN.{length, replicate}
-use borrow.Author.Tests.{leb-true, eq-eqb, ne-eqb}
+use lib.Dec.{eqb·suc-zero}
+use borrow.Author.Tests.{leb-true}
 use Rattle.jobs.specs.declared.model.Version.{Version}
 use Rattle.jobs.specs.declared.model.Job.{Job}
 use Rattle.jobs.specs.Model.{versionOf, placed}
@@ -63,9 +64,9 @@ length-stretches (j ∷ js) x (k ∷ ks) h = ap suc (length-stretches js (left j
 pub placing-meets : (js : List Job) (x : ℕ) (ks : List ℕ) → failing js x ks ≡ 0 →
     placing js x ks ≡ record { failing = 0; stretches = placed 16 noStretch (stretches js x ks) }
 unfolding placing
-placing-meets js x ks h = rw (eq-eqb (failing js x ks) 0 h)
+placing-meets js x ks h = rw h
 
 pub placing-fails : (js : List Job) (x : ℕ) (ks : List ℕ) (n : ℕ) → failing js x ks ≡ suc n →
     placing js x ks ≡ record { failing = suc n; stretches = replicate 16 noStretch }
 unfolding placing
-placing-fails js x ks n h = rw (ne-eqb (failing js x ks) 0 (λ e. omega arith), h)
+placing-fails js x ks n h = rw (h, eqb·suc-zero)

@@ -9,17 +9,17 @@ use Rattle.jobs.specs.declared.model.Job.{Job}
 use Rattle.jobs.specs.declared.model.JobList.{JobList}
 use Rattle.jobs.specs.declared.rule.Stretch.{Stretch}
 use Rattle.jobs.specs.declared.rule.Placing.{Placing}
-use Rattle.jobs.specs.Model.{noJob, placed, jobsOf, chosen}
+use Rattle.jobs.specs.Model.{maxJobs, maxVersions, noJob, placed, jobsOf, chosen}
 use Rattle.jobs.specs.Rule.{failing, stretches}
 use Rattle.jobs.specs.Choice.{total}
 
 -- a choice, in list order, that names one of its versions for each job of a list
 pub record Names (list : JobList) (choice : List ℕ) : Type 0 where
-  pub most : list .count ≤ 16
+  pub most : list .count ≤ maxJobs
   pub whole : length choice ≡ list .count
   pub low : (i : ℕ) → i < list .count → 1 ≤ getD choice i 0
   pub high : (i : ℕ) → i < list .count → getD choice i 0 ≤ getD (list .jobs) i noJob .count
-  pub few : (i : ℕ) → i < list .count → getD (list .jobs) i noJob .count ≤ 10
+  pub few : (i : ℕ) → i < list .count → getD (list .jobs) i noJob .count ≤ maxVersions
 
 -- and whose total 32 bits hold
 pub record Answerable (list : JobList) (choice : List ℕ) : Type 0 where
@@ -29,9 +29,10 @@ pub record Answerable (list : JobList) (choice : List ℕ) : Type 0 where
 abbrev pub noStretch : Stretch
 noStretch = record { start = 0; end = 0 }
 
--- where the rule fails, the position and no stretches; else every stretch in its place
+-- the position where the rule fails, or 0 and every stretch in its place
 unfoldable pub placing : List Job → ℕ → List ℕ → Placing
 placing js x ks =
-    cond (eqb (failing js x ks) 0)
-    (record { failing = 0; stretches = placed 16 noStretch (stretches js x ks) })
-    (record { failing = failing js x ks; stretches = replicate 16 noStretch })
+    record {
+      failing = failing js x ks;
+      stretches = cond (eqb (failing js x ks) 0) (placed maxJobs noStretch (stretches js x ks)) (replicate maxJobs noStretch);
+    }

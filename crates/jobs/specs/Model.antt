@@ -7,6 +7,13 @@ use Rattle.jobs.specs.declared.model.Version.{Version}
 use Rattle.jobs.specs.declared.model.Job.{Job}
 use Rattle.jobs.specs.declared.model.JobList.{JobList}
 
+-- the limits of `JobList` and `Job`
+abbrev pub maxJobs : ℕ
+maxJobs = 16
+
+abbrev pub maxVersions : ℕ
+maxVersions = 10
+
 -- what stands past the end of an array
 abbrev pub noVersion : Version
 noVersion = record { read = false; cost = 0; worth = 0 }

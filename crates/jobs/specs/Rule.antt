@@ -27,7 +27,6 @@ fits j v x = cond (v .read) (leb (j .ready + v .cost) (endOf j x)) true
 
 -- "The start becomes the next bound."
 unfoldable pub left : Job → Version → ℕ → ℕ
-unfolding stretchOf
 left j v x = stretchOf j v x .start
 
 -- "It meets the rule if what the rule asks holds at every batch."

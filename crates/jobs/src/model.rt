@@ -1,7 +1,7 @@
 // The paper's own model: versions, jobs, a list of jobs.
 ghost use mathlib.Core.Path.{_≡_};
 ghost use Prim.Native.Nat.{_≤_};
-ghost use Rattle.jobs.specs.Model.{versionOf};
+ghost use Rattle.jobs.specs.Model.{maxVersions, versionOf};
 
 // One way to read a job. Document 01 calls it a recipe.
 pub struct Version {
@@ -25,7 +25,7 @@ impl Job {
 
     // Version k of this job, counted from 1.
     pub fn version(self, k: u8) -> Version
-        requires { ⌜ (1 ≤ k) × (k ≤ 10) ⌝ }
+        requires { ⌜ (1 ≤ k) × (k ≤ maxVersions) ⌝ }
         ensures { λ r. ⌜ r ≡ versionOf self k ⌝ }
     {
         let at = (k as usize) - 1;

@@ -1,0 +1,78 @@
+// Lists written out batch by batch. A batch or a recipe past a limit is counted and not stored, so that a list can break it.
+use week::record::Batch;
+use week::record::Recipe;
+use week::record::Week;
+
+const MOST: usize = 255;
+
+pub fn batch(number: u16, arrival: u16, due: u16) -> Batch {
+    let mut b = Batch::empty();
+    b.number = number;
+    b.arrival = arrival;
+    b.due = due;
+    b
+}
+
+// b with one recipe more.
+pub fn recipe(b: Batch, cost: u16, worth: u16) -> Batch {
+    let mut more = b;
+    let at = b.count;
+    if at < Batch::MAX_RECIPES {
+        more.recipes[at] = Recipe { cost, worth };
+    }
+    if at < MOST {
+        more.count = at + 1;
+    }
+    more
+}
+
+// w with one batch more.
+pub fn add(w: Week, b: Batch) -> Week {
+    let mut more = w;
+    let at = w.count;
+    if at < Week::MAX_BATCHES {
+        more.batches[at] = b;
+    }
+    if at < MOST {
+        more.count = at + 1;
+    }
+    more
+}
+
+// A batch with one recipe.
+pub fn one(number: u16, arrival: u16, due: u16, cost: u16, worth: u16) -> Batch {
+    recipe(batch(number, arrival, due), cost, worth)
+}
+
+// The batch of 0 to 10 with one recipe.
+pub fn plain(cost: u16, worth: u16) -> Batch {
+    one(1, 0, 10, cost, worth)
+}
+
+// The week of 0 to 10 with one batch.
+pub fn alone(b: Batch) -> Week {
+    add(Week::empty(0, 10), b)
+}
+
+// A week with two batches.
+pub fn pair(opening: u16, closing: u16, a: Batch, b: Batch) -> Week {
+    add(add(Week::empty(opening, closing), a), b)
+}
+
+// 10 recipes, of costs 10 down to 1.
+pub fn ten() -> Batch {
+    let mut b = batch(1, 0, 10);
+    for i in 0..10u16 {
+        b = recipe(b, 10 - i, 1);
+    }
+    b
+}
+
+// 16 batches with one recipe of one minute, due at 51 to 66.
+pub fn sixteen(worth: u16) -> Week {
+    let mut w = Week::empty(0, 100);
+    for i in 1..17u16 {
+        w = add(w, one(i, 0, 50 + i, 1, worth));
+    }
+    w
+}

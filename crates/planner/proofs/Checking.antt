@@ -1,0 +1,89 @@
+-- Check's answer: which refusal comes first, and what is answered then.
+use Prim.Native.Nat.{ℕ}
+use native.Mathlib.Decide.{ℕ-discrete}
+use native.Mathlib.Omega.{arith}
+use mathlib.Core.Path.{_≡_, refl, sym, ap, _∙_}
+use mathlib.Core.Bool.{not}
+use mathlib.Core.List.{List, [], _∷_}
+use borrow.Author.Tests.{eq-eqb, ne-eqb}
+use Rattle.jobs.specs.declared.rule.Placing.{Placing}
+use Rattle.jobs.specs.Rule.{failing}
+use Rattle.jobs.specs.Choice.{total}
+use Rattle.jobs.specs.Contract.{placing}
+use Rattle.jobs.proofs.Rules.{placing-meets}
+use Rattle.week.specs.declared.record.Week.{Week}
+use Rattle.week.specs.declared.refusal.Refusal.{Refusal}
+use Rattle.week.specs.Refusal.{accepted, refused, firstOf}
+use Rattle.week.specs.Fault.{listFault, choiceFault}
+use Rattle.week.proofs.First.{number-of, or-first, or-second, firstOf-one, firstOf-append, firstOf-proper, refusedIf-true}
+use Rattle.week.proofs.First.{refusedIf-false, refusedIf-proper}
+use Rattle.planner.specs.declared.check.Checked.{Checked}
+use Rattle.planner.specs.Job.{weekJobs}
+use Rattle.planner.specs.Check.{weekChoice, ruleFault, checkFault, passed, refusedCheck, checkAnswer}
+
+module _ (w : Week) (choice : List ℕ) where
+  -- the refusals of the list and of the choice
+  abbrev handed : Refusal
+  handed = firstOf (listFault w ∷ choiceFault w choice ∷ [])
+
+  abbrev failed : ℕ
+  failed = failing (weekJobs w) (w .closing) (weekChoice w choice)
+
+  pub answer-refused : {r : Refusal} → checkFault w choice ≡ r → (r .number ≡ 0 → ⊥) → checkAnswer w choice ≡ refusedCheck r
+  unfolding checkAnswer
+  answer-refused {r} e n = rw (e, ne-eqb (r .number) 0 n)
+
+  pub answer-passed : checkFault w choice .number ≡ 0 → checkAnswer w choice ≡ passed w choice
+  unfolding checkAnswer
+  answer-passed z = rw (eq-eqb (checkFault w choice .number) 0 z)
+
+  -- what is answered names the first refusal
+  pub answer-names : checkAnswer w choice .refusal ≡ checkFault w choice
+  unfolding passed refusedCheck checkFault
+  answer-names =
+      elim (ℕ-discrete (checkFault w choice .number) 0) [
+        | yes z ↦ ap (λ (a : Checked). a .refusal) (answer-passed z) ∙ sym (firstOf-proper _ z)
+        | no n ↦ ap (λ (a : Checked). a .refusal) (answer-refused refl n)
+      ]
+
+  pub fault-handed : (handed .number ≡ 0 → ⊥) → checkFault w choice ≡ handed
+  unfolding checkFault
+  fault-handed n =
+      firstOf-append (listFault w ∷ choiceFault w choice ∷ []) (ruleFault w choice ∷ []) ∙ or-first handed _ n
+
+  pub fault-rule : handed .number ≡ 0 → checkFault w choice ≡ ruleFault w choice
+  unfolding checkFault ruleFault
+  fault-rule z =
+      firstOf-append (listFault w ∷ choiceFault w choice ∷ []) (ruleFault w choice ∷ [])
+      ∙ or-second handed _ z
+      ∙ firstOf-one (ruleFault w choice) (refusedIf-proper _ _ _ _)
+
+  pub rule-met : failed ≡ 0 → ruleFault w choice ≡ accepted
+  unfolding ruleFault
+  rule-met z = refusedIf-false 15 failed 0 (ap not (eq-eqb failed 0 z))
+
+  pub rule-broken : (failed ≡ 0 → ⊥) → ruleFault w choice ≡ refused 15 failed 0
+  unfolding ruleFault
+  rule-broken n = refusedIf-true 15 failed 0 (ap not (ne-eqb failed 0 n))
+
+  -- p is the rule's answer for a list and a choice that have passed
+  module _ {p : Placing} (handed-passed : handed .number ≡ 0) (is : p ≡ placing (weekJobs w) (w .closing) (weekChoice w choice)) where
+    failed-at : p .failing ≡ failed
+    unfolding placing
+    failed-at = ap (λ (q : Placing). q .failing) is
+
+    pub placing-refused : {r : Refusal} → r ≡ refused 15 (p .failing) 0 → (p .failing ≡ 0 → ⊥) → checkAnswer w choice ≡ refusedCheck r
+    placing-refused e n =
+        answer-refused
+        (fault-rule handed-passed
+        ∙ rule-broken (λ z. n (failed-at ∙ z))
+        ∙ ap (λ (at : ℕ). refused 15 at 0) (sym failed-at)
+        ∙ sym e)
+        (λ z. omega (arith, number-of e))
+
+    pub placing-passed : p .failing ≡ 0 → {r : Refusal} → r ≡ accepted → {sum : ℕ} → sum ≡ total (weekJobs w) (weekChoice w choice) →
+        checkAnswer w choice ≡ record { refusal = r; total = sum; stretches = p .stretches }
+    unfolding passed
+    placing-passed z none added =
+        let met : failed ≡ 0 = sym failed-at ∙ z in
+        answer-passed (number-of (fault-rule handed-passed ∙ rule-met met)) ∙ rw (none, added, is, placing-meets _ _ _ met)

@@ -1,0 +1,4 @@
+pub mod Demands
+pub mod Mapped
+pub mod Jobs
+pub mod Checking

@@ -1,0 +1,47 @@
+-- Check: what it answers, on every list and every choice.
+use Prim.Native.Nat.{ℕ}
+use mathlib.Core.Bool.{cond, not}
+use mathlib.Core.List.{List, [], _∷_}
+use lib.ListN.{replicate}
+use lib.Dec.{eqb}
+use Rattle.jobs.specs.Model.{placed, chosen}
+use Rattle.jobs.specs.Rule.{failing, stretches}
+use Rattle.jobs.specs.Choice.{total}
+use Rattle.jobs.specs.Contract.{noStretch}
+use Rattle.week.specs.declared.record.Week.{Week}
+use Rattle.week.specs.declared.refusal.Refusal.{Refusal}
+use Rattle.planner.specs.declared.check.Checked.{Checked}
+use Rattle.week.specs.Record.{maxBatches}
+use Rattle.week.specs.Refusal.{accepted, refusedIf, firstOf}
+use Rattle.week.specs.Fault.{listFault, choiceFault}
+use Rattle.planner.specs.Job.{jobListOf, weekJobs}
+
+-- a choice handed in, the last batch's recipe first
+abbrev pub weekChoice : Week → List ℕ → List ℕ
+weekChoice w choice = chosen (jobListOf w) choice
+
+-- "15: the choice breaks it (Check), with the first failing position met going backward."
+unfoldable pub ruleFault : Week → List ℕ → Refusal
+ruleFault w choice =
+    refusedIf 15 (failing (weekJobs w) (w .closing) (weekChoice w choice)) 0
+    (not (eqb (failing (weekJobs w) (w .closing) (weekChoice w choice)) 0))
+
+-- the refusals of Check in their order
+unfoldable pub checkFault : Week → List ℕ → Refusal
+checkFault w choice = firstOf (listFault w ∷ choiceFault w choice ∷ ruleFault w choice ∷ [])
+
+-- "Check: list and choice, answering the stretches and the total."
+unfoldable pub passed : Week → List ℕ → Checked
+passed w choice =
+    record {
+      refusal = accepted;
+      total = total (weekJobs w) (weekChoice w choice);
+      stretches = placed maxBatches noStretch (stretches (weekJobs w) (w .closing) (weekChoice w choice));
+    }
+
+-- "Anything else that its record holds is 0".
+unfoldable pub refusedCheck : Refusal → Checked
+refusedCheck r = record { refusal = r; total = 0; stretches = replicate maxBatches noStretch }
+
+unfoldable pub checkAnswer : Week → List ℕ → Checked
+checkAnswer w choice = cond (eqb (checkFault w choice .number) 0) (passed w choice) (refusedCheck (checkFault w choice))

@@ -1,0 +1,163 @@
+-- Document 01, "Fixed examples", A to L, computed from the definitions: one table, one claim.
+use Prim.Native.Nat.{ℕ, zero, suc, _*_, _-_}
+use mathlib.Core.Path.{_≡_, refl}
+use mathlib.Core.Bool.{Bool, true, false, _&&_}
+use mathlib.Core.List.{List, [], _∷_, _++_}
+use mathlib.Core.Option.{Option, none, some}
+use lib.ListN.{length, take, replicate}
+use lib.Dec.{eqb}
+use Rattle.jobs.specs.declared.rule.Stretch.{Stretch}
+use Rattle.jobs.specs.Model.{forward}
+use Rattle.jobs.specs.Rule.{stretchOf, fits, left}
+use Rattle.jobs.specs.Choice.{total}
+use Rattle.jobs.specs.Best.{best}
+use Rattle.edf.specs.declared.Outcome.{Outcome}
+use Rattle.edf.specs.declared.Outcome.the-variants.{SetAside, Finished, Unfinished}
+use Rattle.edf.specs.Run.{entries, minutesLeft, firstOpen, logOf, idle, changesAfter, changes, upToLast, outcomeOf}
+use Rattle.edf.specs.Jobs.{runLog, runOutcome}
+use Rattle.week.specs.declared.record.Recipe.{Recipe}
+use Rattle.week.specs.declared.record.Batch.{Batch}
+use Rattle.week.specs.declared.record.Week.{Week}
+use Rattle.week.specs.Record.{maxBatches, maxRecipes, noRecipe, emptyBatch, before}
+use Rattle.week.specs.Refusal.{refusedIf, orElse, firstOf, first}
+use Rattle.week.specs.Fault.{weekFault, costAt, worthAt, numberAt, order, batchFault, listFault, nameAt, choiceFault}
+use Rattle.planner.specs.declared.check.Checked.{Checked}
+use Rattle.planner.specs.Job.{weekJobs}
+use Rattle.planner.specs.Check.{ruleFault, checkFault, passed, refusedCheck, checkAnswer}
+use Rattle.planner.specs.Run.{weekLog, weekOutcome}
+
+-- The lists.
+abbrev recipe : ℕ → ℕ → Recipe
+recipe cost worth = record { cost = cost; worth = worth }
+
+abbrev batch : (number r d : ℕ) → List Recipe → Batch
+batch number r d rs =
+    record { number = number; arrival = r; due = d; count = length rs; recipes = rs ++ replicate (maxRecipes - length rs) noRecipe }
+
+abbrev week : (t c : ℕ) → List Batch → Week
+week t c bs =
+    record { opening = t; closing = c; count = length bs; batches = bs ++ replicate (maxBatches - length bs) emptyBatch }
+
+-- costs falling by u to u, worths falling to 1, n of them
+abbrev falling : ℕ → ℕ → List Recipe
+falling u zero = []
+falling u (suc n) = recipe (u * suc n) (suc n) ∷ falling u n
+
+weekW : Week
+weekW =
+    week 0 100
+    (batch 7 0 40 (recipe 30 9 ∷ recipe 10 4 ∷ [])
+    ∷ batch 8 20 60 (recipe 30 8 ∷ recipe 0 0 ∷ [])
+    ∷ batch 9 0 100 (recipe 50 10 ∷ recipe 20 5 ∷ [])
+    ∷ [])
+
+-- the source's example times ten, closing at c
+weekE : ℕ → Week
+weekE c =
+    week 0 c
+    (batch 1 0 900 (falling 31 10)
+    ∷ batch 2 0 1010 (recipe 910 10 ∷ [])
+    ∷ batch 3 540 2340 (falling 22 10)
+    ∷ [])
+
+weekG : List Recipe → Week
+weekG rs = week 0 10 (batch 1 0 10 rs ∷ [])
+
+weekJ : Week
+weekJ = week 0 10 (batch 1 5 9 (recipe 4 1 ∷ []) ∷ batch 2 0 10 (recipe 5 1 ∷ []) ∷ [])
+
+weekK : ℕ → Week
+weekK d = week 20 30 (batch 1 5 d (recipe 1 1 ∷ []) ∷ [])
+
+-- The answers as numbers.
+-- the total of the best choice and its recipes in list order; 14 if there is none
+abbrev planNumbers : Week → Option (List ℕ) → List ℕ
+planNumbers w none = 14 ∷ []
+planNumbers w (some ks) = total (weekJobs w) ks ∷ forward ks
+
+abbrev bestPlan : Week → List ℕ
+bestPlan w = planNumbers w (best (weekJobs w) (w .closing))
+
+abbrev stretchNumbers : List Stretch → List ℕ
+stretchNumbers [] = []
+stretchNumbers (s ∷ ss) = s .start ∷ s .end ∷ stretchNumbers ss
+
+-- Check's refusal, total and stretches
+abbrev checkNumbers : ℕ → Checked → List ℕ
+checkNumbers n a =
+    a .refusal .number ∷ a .refusal .place ∷ a .refusal .recipe ∷ a .total ∷ stretchNumbers (take n (a .stretches))
+
+abbrev check : Week → List ℕ → List ℕ
+check w choice = checkNumbers (w .count) (checkAnswer w choice)
+
+abbrev finish : Outcome → ℕ
+finish SetAside = 0
+finish (Finished m) = m
+finish (Unfinished l) = 0
+
+abbrev finishes : Week → List ℕ → ℕ → List ℕ
+finishes w choice zero = []
+finishes w choice (suc i) = finishes w choice i ++ (finish (weekOutcome w choice i) ∷ [])
+
+-- the run's changes and idle minutes, and each batch's finish
+abbrev run : Week → List ℕ → List ℕ
+run w choice = changes (weekLog w choice) ∷ idle (weekLog w choice) ∷ finishes w choice (w .count)
+
+-- What the definitions say, and what document 01 says.
+record Example : Type 0 where
+  pub said : List ℕ
+  pub written : List ℕ
+
+infixl 20 _is_
+abbrev _is_ : List ℕ → List ℕ → Example
+a is b = record { said = a; written = b }
+
+table : List Example
+table =
+    -- A, with the stretches that case W prints
+    (bestPlan weekW is (22 ∷ 2 ∷ 1 ∷ 1 ∷ []))
+    ∷ (check weekW (2 ∷ 1 ∷ 1 ∷ []) is (0 ∷ 0 ∷ 0 ∷ 22 ∷ 10 ∷ 20 ∷ 20 ∷ 50 ∷ 50 ∷ 100 ∷ []))
+    -- B
+    ∷ (check weekW (1 ∷ 1 ∷ 2 ∷ []) is (0 ∷ 0 ∷ 0 ∷ 22 ∷ 0 ∷ 30 ∷ 30 ∷ 60 ∷ 80 ∷ 100 ∷ []))
+    -- C
+    ∷ (check weekW (1 ∷ 1 ∷ 1 ∷ []) is (15 ∷ 1 ∷ 0 ∷ 0 ∷ 0 ∷ 0 ∷ 0 ∷ 0 ∷ 0 ∷ 0 ∷ []))
+    -- D
+    ∷ (run weekW (2 ∷ 1 ∷ 1 ∷ []) is (4 ∷ 10 ∷ 10 ∷ 50 ∷ 90 ∷ []))
+    -- E: the bound for batch 1 is the start of batch 2's stretch, 100
+    ∷ (bestPlan (weekE 2340) is (23 ∷ 8 ∷ 1 ∷ 1 ∷ []))
+    ∷ (check (weekE 2340) (8 ∷ 1 ∷ 1 ∷ []) is (0 ∷ 0 ∷ 0 ∷ 23 ∷ 7 ∷ 100 ∷ 100 ∷ 1010 ∷ 2120 ∷ 2340 ∷ []))
+    -- F, and the choice that ties and loses
+    ∷ (bestPlan (weekE 1000) is (13 ∷ 10 ∷ 1 ∷ 9 ∷ []))
+    ∷ (check (weekE 1000) (9 ∷ 1 ∷ 10 ∷ []) is (0 ∷ 0 ∷ 0 ∷ 13 ∷ 6 ∷ 68 ∷ 68 ∷ 978 ∷ 978 ∷ 1000 ∷ []))
+    -- G, H, I
+    ∷ (bestPlan (weekG (recipe 10 1 ∷ [])) is (1 ∷ 1 ∷ []))
+    ∷ (bestPlan (weekG (recipe 11 1 ∷ [])) is (14 ∷ []))
+    ∷ (bestPlan (weekG (recipe 11 1 ∷ recipe 0 0 ∷ [])) is (0 ∷ 2 ∷ []))
+    -- J: no plan, yet the run finishes at 9 and 5
+    ∷ (bestPlan weekJ is (14 ∷ []))
+    ∷ (run weekJ (1 ∷ 1 ∷ []) is (2 ∷ 1 ∷ 9 ∷ 5 ∷ []))
+    -- K
+    ∷ (bestPlan (weekK 21) is (1 ∷ 1 ∷ []))
+    ∷ (check (weekK 21) (1 ∷ []) is (0 ∷ 0 ∷ 0 ∷ 1 ∷ 20 ∷ 21 ∷ []))
+    ∷ (bestPlan (weekK 20) is (14 ∷ []))
+    -- L
+    ∷ (bestPlan (week 0 10 []) is (0 ∷ []))
+    ∷ []
+
+same : List ℕ → List ℕ → Bool
+same [] [] = true
+same [] (y ∷ ys) = false
+same (x ∷ xs) [] = false
+same (x ∷ xs) (y ∷ ys) = eqb x y && same xs ys
+
+agree : List Example → Bool
+agree [] = true
+agree (e ∷ es) = same (e .said) (e .written) && agree es
+
+examples : agree table ≡ true
+unfolding
+    table same agree weekW weekE weekG weekJ weekK stretchOf fits left best
+    entries minutesLeft firstOpen logOf idle changesAfter changes upToLast outcomeOf runLog runOutcome
+    before refusedIf orElse firstOf first weekFault costAt worthAt numberAt order batchFault listFault nameAt choiceFault
+    ruleFault checkFault passed refusedCheck checkAnswer
+examples = refl

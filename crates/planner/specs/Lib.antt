@@ -1,0 +1,4 @@
+pub mod Job
+pub mod Check
+pub mod Run
+pub mod Examples

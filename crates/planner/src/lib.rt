@@ -1,0 +1,3 @@
+// The week planner's operations over a week's list.
+pub mod check;
+pub mod job;

@@ -1,0 +1,31 @@
+-- Refusals, and the first of several: document 01, "Who can be refused, and why".
+use Prim.Native.Nat.{ℕ, zero, suc}
+use mathlib.Core.Bool.{Bool, cond}
+use mathlib.Core.List.{List, [], _∷_}
+use lib.Dec.{eqb}
+use Rattle.week.specs.declared.refusal.Refusal.{Refusal}
+
+abbrev pub accepted : Refusal
+accepted = record { number = 0; place = 0; recipe = 0 }
+
+-- "An answer of refusal is three numbers: its own, a place and a recipe."
+abbrev pub refused : ℕ → ℕ → ℕ → Refusal
+refused number place recipe = record { number = number; place = place; recipe = recipe }
+
+-- a number with its place, its recipe and its condition
+unfoldable pub refusedIf : ℕ → ℕ → ℕ → Bool → Refusal
+refusedIf number place recipe holds = cond holds (refused number place recipe) accepted
+
+-- the first of two that refuses
+unfoldable pub orElse : Refusal → Refusal → Refusal
+orElse a b = cond (eqb (a .number) 0) b a
+
+-- "The number answered is the first in this order whose condition holds, and nothing else is refused."
+unfoldable pub firstOf : List Refusal → Refusal
+firstOf [] = accepted
+firstOf (r ∷ rs) = orElse r (firstOf rs)
+
+-- the first that refuses of f i, f (i + 1), .., m of them
+unfoldable pub first : (ℕ → Refusal) → ℕ → ℕ → Refusal
+first f i zero = accepted
+first f i (suc m) = orElse (f i) (first f (suc i) m)
