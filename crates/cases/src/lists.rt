@@ -20,11 +20,9 @@ pub fn weeks() {
     show(b"no batches", Week::empty(0, 10), b"");
     let choice = b"\x01\x01\x01\x01\x01\x01\x01\x01\x01\x01\x01\x01\x01\x01\x01\x01";
     show(b"16 batches of the greatest worth", sixteen(65535), choice);
-    show(
-        b"17 batches, the last with no recipe",
-        add(sixteen(1), batch(17, 0, 67)),
-        b"",
-    );
+    let mut many = add(sixteen(1), one(17, 0, 67, 1, 1));
+    many.batches[0] = batch(1, 0, 51);
+    show(b"17 batches, the first with no recipe", many, b"");
 }
 
 // 4 to 6.

@@ -29,8 +29,8 @@ abbrev pub choices : List Job → List (List ℕ)
 choices [] = [] ∷ []
 choices (j ∷ js) = under (j .count) (choices js)
 
--- 01: "the one taken has the lowest recipe number at the last batch, then at the one before": at the last job where
--- the two differ, b names the higher version
+-- 01: "the one taken has the lowest recipe number at the last batch, then at the one before": of two choices, the second
+-- names the higher version at the last job where they differ
 abbrev pub Higher : List ℕ → List ℕ → Type 0
 Higher [] ms = ⊥
 Higher (k ∷ ks) [] = ⊥

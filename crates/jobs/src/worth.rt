@@ -13,12 +13,10 @@ pub fn total(list: JobList, choice: &[u8]) -> u32
     let jobs = list.jobs;
     let n = list.count;
     let mut sum: u64 = 0;
-    let mut i = 0;
-    while i < n {
+    for i in 0..n {
         let j = jobs[i];
         let v = j.version(choice[i]);
         sum += v.worth as u64;
-        i += 1;
     }
     sum as u32
 }
