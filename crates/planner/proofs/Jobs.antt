@@ -26,11 +26,11 @@ version-at : (t : ℕ) (b : Batch) → Sized b → (k : ℕ) → 1 ≤ k → k �
 version-at t b s zero low high = absurd (omega arith)
 version-at t b s (suc k) low high =
     let e : suc k - 1 ≡ k = omega arith in
-    rw e (map-at versionFrom (b .recipes) k noVersion noRecipe (omega (arith, s .ten)))
+    rw e (map-at versionFrom (b .recipes) k noVersion noRecipe (omega (arith, s .recipes)))
 
 module _ (w : Week) (choice : List ℕ) (sized : WeekSized w) (sound : Sound w) (named : Named w choice) where
   job-at : (i : ℕ) → i < w .count → getD (jobListOf w .jobs) i noJob ≡ jobFrom (w .opening) (batchAt w i)
-  job-at i l = map-at (jobFrom (w .opening)) (w .batches) i noJob noBatch (omega (arith, sound .most, sized .sixteen))
+  job-at i l = map-at (jobFrom (w .opening)) (w .batches) i noJob noBatch (omega (arith, sound .most, sized .batches))
 
   count-at : (i : ℕ) → i < w .count → getD (jobListOf w .jobs) i noJob .count ≡ batchAt w i .count
   count-at i l = ap (λ (j : Job). j .count) (job-at i l)

@@ -11,18 +11,18 @@ use denote.Array.{each}
 use denote.Struct.Field.{Field}
 use Rattle.week.specs.declared.record.Batch.{Batch}
 use Rattle.week.specs.declared.record.Week.{Week}
-use Rattle.week.specs.Record.{recipeAt, batchAt}
+use Rattle.week.specs.Record.{maxBatches, maxRecipes, recipeAt, batchAt}
 use Rattle.week.proofs.record.Recipe as R
 use Rattle.week.proofs.record.Batch as B
 use Rattle.week.proofs.record.Week as W
 
 pub record Sized (b : Batch) : Type 0 where
-  pub ten : length (b .recipes) ≡ 10
-  pub worth : (k : ℕ) → k < 10 → recipeAt b k .worth < 65536
+  pub recipes : length (b .recipes) ≡ maxRecipes
+  pub worth : (k : ℕ) → k < maxRecipes → recipeAt b k .worth < 65536
 
 pub record WeekSized (w : Week) : Type 0 where
-  pub sixteen : length (w .batches) ≡ 16
-  pub batch : (i : ℕ) → i < 16 → Sized (batchAt w i)
+  pub batches : length (w .batches) ≡ maxBatches
+  pub batch : (i : ℕ) → i < maxBatches → Sized (batchAt w i)
 
 -- what owning an element tells holds of each element of an array
 module _ (F : Field) (P : F .Value → Type 0) (one : (x : F .Value) (u : Val) → Is (F .row) (F .into x) (u ∷ []) → P x) where
@@ -36,9 +36,9 @@ module _ (F : Field) (P : F .Value → Type 0) (one : (x : F .Value) (u : Val) �
 pub sized : (b : Batch) (vs : List Val) → Is (B.the-field .row) (B.the-field .into b) vs → Sized b
 sized b vs h =
     let recipes = h .1 .1 .1 .1 .1 .1 .0 in
-    let long : length (b .recipes) ≡ 10 = sym (length-map (b .recipes) (R.the-field .into)) ∙ recipes .1 .0 .1 in
+    let long : length (b .recipes) ≡ maxRecipes = sym (length-map (b .recipes) (R.the-field .into)) ∙ recipes .1 .0 .1 in
     record {
-      ten = long;
+      recipes = long;
       worth =
           λ k l. each-in R.the-field (λ r. r .worth < 65536) (λ x u q. q .1 .1 .1 .0 .1) (b .recipes) (recipes .0) (recipes .1 .1) k
           (omega arith) _;
@@ -47,9 +47,9 @@ sized b vs h =
 pub week-sized : (w : Week) (vs : List Val) → Is (W.the-row) w vs → WeekSized w
 week-sized w vs h =
     let batches = h .1 .1 .1 .1 .1 .0 in
-    let long : length (w .batches) ≡ 16 = sym (length-map (w .batches) (B.the-field .into)) ∙ batches .1 .0 .1 in
+    let long : length (w .batches) ≡ maxBatches = sym (length-map (w .batches) (B.the-field .into)) ∙ batches .1 .0 .1 in
     record {
-      sixteen = long;
+      batches = long;
       batch =
           λ i l. each-in B.the-field (λ b. Sized b) (λ x u q. sized x (u ∷ []) q) (w .batches) (batches .0) (batches .1 .1) i
           (omega arith) _;

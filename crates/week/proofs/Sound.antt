@@ -8,7 +8,7 @@ use lib.ListN.{length, getD}
 use lib.Dec.{ltb, eqb}
 use borrow.Author.Tests.{eqb-true, eqb-false, ltb-false, leb-false, not-false}
 use Rattle.week.specs.declared.record.Week.{Week}
-use Rattle.week.specs.Record.{batchAt}
+use Rattle.week.specs.Record.{maxMinutes, maxBatches, maxRecipes, batchAt}
 use Rattle.week.specs.Fault.{weekFault, recipeCount, batchFault, listFault, nameAt, choiceFault}
 use Rattle.week.proofs.First.{firstOf-none, first-none, refusedIf-none}
 
@@ -23,7 +23,7 @@ from-one n m false b e f h = (let z = eqb-false n 0 e in omega arith, ltb-false 
 
 -- 1 to 3 pass
 pub week-limits : (w : Week) → weekFault w .number ≡ 0 →
-    (w .opening < w .closing) × (w .closing - w .opening ≤ 2400) × (w .count ≤ 16)
+    (w .opening < w .closing) × (w .closing - w .opening ≤ maxMinutes) × (w .count ≤ maxBatches)
 unfolding weekFault
 week-limits w h =
     let one = firstOf-none _ _ h in
@@ -35,11 +35,11 @@ week-limits w h =
     )
 
 -- 4 passes
-pub recipe-count : (w : Week) (i : ℕ) → recipeCount w i .number ≡ 0 → FromOne (batchAt w i .count) 10
+pub recipe-count : (w : Week) (i : ℕ) → recipeCount w i .number ≡ 0 → FromOne (batchAt w i .count) maxRecipes
 recipe-count w i h = from-one _ _ _ _ refl refl (refusedIf-none _ _ _ _ h)
 
 -- 4 passes at each batch of the list
-recipe-counts : (w : Week) → listFault w .number ≡ 0 → (i : ℕ) → i < w .count → FromOne (batchAt w i .count) 10
+recipe-counts : (w : Week) → listFault w .number ≡ 0 → (i : ℕ) → i < w .count → FromOne (batchAt w i .count) maxRecipes
 unfolding listFault batchFault
 recipe-counts w h i l =
     let batches = firstOf-none _ _ (firstOf-none _ _ h .1) .0 in
@@ -55,10 +55,10 @@ names w choice h i l =
 
 pub record Sound (w : Week) : Type 0 where
   pub opens : w .opening < w .closing
-  pub short : w .closing - w .opening ≤ 2400
-  pub most : w .count ≤ 16
+  pub short : w .closing - w .opening ≤ maxMinutes
+  pub most : w .count ≤ maxBatches
   pub some : (i : ℕ) → i < w .count → 1 ≤ batchAt w i .count
-  pub few : (i : ℕ) → i < w .count → batchAt w i .count ≤ 10
+  pub few : (i : ℕ) → i < w .count → batchAt w i .count ≤ maxRecipes
 
 pub sound : (w : Week) → listFault w .number ≡ 0 → Sound w
 unfolding listFault

@@ -17,7 +17,7 @@ abbrev μ-loop : tie.MeasureT-loop
 μ-loop opening b recipes versions₀ k₀ versions k = 10 - k
 
 loop-holds : tie.Need-loop-holds Inv-loop μ-loop
-loop-holds c = mapped-start _ _ _ _ (sized (c .before .args .b) _ (c .before .good .1 .0) .ten) refl
+loop-holds c = mapped-start _ _ _ _ (sized (c .before .args .b) _ (c .before .good .1 .0) .recipes) refl
 
 mul-r : tie.Need-mul-r Inv-loop μ-loop
 mul-r c = omega arith

@@ -25,7 +25,7 @@ job-of-requires c κs = search needs
 loop-holds : tie.Need-loop-holds Inv-loop μ-loop
 loop-holds c =
     let start = c .before .before .before in
-    mapped-start _ _ _ _ (week-sized (start .args .week) _ (start .good .0) .sixteen) refl
+    mapped-start _ _ _ _ (week-sized (start .args .week) _ (start .good .0) .batches) refl
 
 mul-b : tie.Need-mul-b Inv-loop μ-loop
 mul-b c = omega arith
