@@ -3,6 +3,7 @@ use week::record::Batch;
 use week::record::Recipe;
 use week::record::Week;
 
+// As far as a count goes up, so that it never wraps.
 const MOST: usize = 255;
 
 pub fn batch(number: u16, arrival: u16, due: u16) -> Batch {

@@ -3,6 +3,7 @@
 use Prim.Native.Nat.{ℕ, zero, suc, _+_, _-_}
 use mathlib.Core.Bool.{Bool, cond, _&&_, not}
 use mathlib.Core.List.{List, [], _∷_, _++_}
+use lib.ListN.{getD}
 use lib.Dec.{ltb, leb, eqb}
 use Rattle.edf.specs.declared.Outcome.{Outcome}
 use Rattle.edf.specs.declared.Outcome.the-variants.{SetAside, Finished, Unfinished}
@@ -62,3 +63,14 @@ upToLast j (x ∷ xs) = oneMore (eqb x j) (upToLast j xs)
 unfoldable pub outcomeOf : (aside : Bool) (m t : ℕ) → List ℕ → ℕ → Outcome
 outcomeOf aside m t log j =
     cond aside SetAside (cond (leb m (entries j log)) (Finished (t + upToLast j log)) (Unfinished (m - entries j log)))
+
+-- the number of each case of an outcome, and the minute or the minutes that it names
+unfoldable pub outcomeNumbers : Outcome → List ℕ
+outcomeNumbers SetAside = 0 ∷ 0 ∷ []
+outcomeNumbers (Finished minute) = 1 ∷ minute ∷ []
+outcomeNumbers (Unfinished left) = 2 ∷ left ∷ []
+
+-- an array by position, from 1
+abbrev pub numbered : List ℕ → ℕ → ℕ
+numbered xs zero = 0
+numbered xs (suc i) = getD xs i 0

@@ -28,7 +28,7 @@ module _ (v : List ℕ → ℕ) where
       rw (hp, le-ltb (v a) (v c) (omega arith))
 
   -- keeping the first unless the second is greater is associative
-  pub greater-assoc : (a b c : Option (List ℕ)) → greater v (greater v a b) c ≡ greater v a (greater v b c)
+  greater-assoc : (a b c : Option (List ℕ)) → greater v (greater v a b) c ≡ greater v a (greater v b c)
   greater-assoc none b c = refl
   greater-assoc (some a) none c = refl
   greater-assoc (some a) (some b) none = greater-none (greater v (some a) (some b))

@@ -1,4 +1,5 @@
 pub mod Places
+pub mod Fills
 pub mod Rules
 pub mod Named
 pub mod Pass

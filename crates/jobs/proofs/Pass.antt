@@ -8,12 +8,12 @@ use lib.ListN.{length, getD, set, replicate}
 use Rattle.jobs.specs.declared.model.Version.{Version}
 use Rattle.jobs.specs.declared.model.Job.{Job}
 use Rattle.jobs.specs.declared.rule.Stretch.{Stretch}
-use Rattle.jobs.specs.Model.{noJob, versionOf, backward, placed}
-use Rattle.jobs.specs.Rule.{stretchOf, fits, left, failing, stretches}
-use Rattle.jobs.specs.Contract.{noStretch, placing}
+use Rattle.jobs.specs.Model.{maxJobs, noJob, versionOf, backward, placed}
+use Rattle.jobs.specs.Rule.{stretchOf, fits, nextBound, failing, stretches}
+use Rattle.jobs.specs.Contract.{noStretch, stretched}
 use Rattle.jobs.proofs.Places.{length-backward, length-placed, placed-beyond, backward-placed, replicate-at}
-use Rattle.jobs.proofs.Places.{Filled, filled-step, filled-all}
-use Rattle.jobs.proofs.Rules.{length-stretches, placing-meets, placing-fails}
+use Rattle.jobs.proofs.Fills.{Filled, filled-step, filled-all}
+use Rattle.jobs.proofs.Rules.{length-stretches, stretched-meets, stretched-fails}
 
 -- the jobs and the choice are arrays of which the first n count
 module _ (jobs : List Job) (choice : List ℕ) (close n : ℕ) where
@@ -22,7 +22,7 @@ module _ (jobs : List Job) (choice : List ℕ) (close n : ℕ) where
   all = stretches (backward noJob jobs n) close (backward 0 choice n)
 
   abbrev whole : List Stretch
-  whole = placed 16 noStretch all
+  whole = placed maxJobs noStretch all
 
   -- before job i: what the rule says of the whole is what it says of the first i jobs under the bound
   pub record Pass (array : List Stretch) (bound i : ℕ) : Type 0 where
@@ -30,26 +30,26 @@ module _ (jobs : List Job) (choice : List ℕ) (close n : ℕ) where
     pub fails :
         failing (backward noJob jobs n) close (backward 0 choice n) ≡ failing (backward noJob jobs i) bound (backward 0 choice i)
     pub rest : backward noStretch whole i ≡ stretches (backward noJob jobs i) bound (backward 0 choice i)
-    pub filled : Filled noStretch whole i array
+    pub filled : Filled noStretch whole (λ k. i ≤ k) array
 
   length-all : length all ≡ n
   length-all =
       let same = length-backward noJob jobs n in
       length-stretches (backward noJob jobs n) close (backward 0 choice n) (length-backward 0 choice n ∙ sym same) ∙ same
 
-  length-whole : n ≤ 16 → length whole ≡ 16
-  length-whole most = length-placed 16 noStretch all (omega (arith, length-all))
+  length-whole : n ≤ maxJobs → length whole ≡ maxJobs
+  length-whole most = length-placed maxJobs noStretch all (omega (arith, length-all))
 
   -- at the start nothing is placed
-  pub pass-start : n ≤ 16 → Pass (replicate 16 noStretch) close n
+  pub pass-start : n ≤ maxJobs → Pass (replicate maxJobs noStretch) close n
   pass-start most =
       record {
         low = omega arith;
         fails = refl;
-        rest = subst (λ (i : ℕ). backward noStretch whole i ≡ all) length-all (backward-placed 16 noStretch all);
+        rest = subst (λ (i : ℕ). backward noStretch whole i ≡ all) length-all (backward-placed maxJobs noStretch all);
         filled = record {
           size = sym (length-whole most);
-          done = λ k from. replicate-at 16 noStretch k ∙ sym (placed-beyond 16 noStretch all k (omega (arith, length-all)));
+          done = λ k from. replicate-at maxJobs noStretch k ∙ sym (placed-beyond maxJobs noStretch all k (omega (arith, length-all)));
         };
       }
 
@@ -63,29 +63,29 @@ module _
       here = subst (λ (k : ℕ). Pass jobs choice close n array bound k) last h
 
       -- the version fits: s is its stretch
-      pub pass-step : n ≤ 16 → fits (getD jobs at noJob) v bound ≡ true → {s : Stretch} → s ≡ stretchOf (getD jobs at noJob) v bound →
+      pub pass-step : n ≤ maxJobs → fits (getD jobs at noJob) v bound ≡ true → {s : Stretch} → s ≡ stretchOf (getD jobs at noJob) v bound →
           Pass jobs choice close n (set array at s) (s .start) at
-      unfolding left
+      unfolding nextBound
       pass-step most fit {s} kept =
-          let next : left (getD jobs at noJob) v bound ≡ s .start = ap (λ (q : Stretch). q .start) (sym kept) in
+          let next : nextBound (getD jobs at noJob) v bound ≡ s .start = ap (λ (q : Stretch). q .start) (sym kept) in
           record {
             low = omega (arith, here .low);
             fails = rw (← named, fit, next) at (here .fails);
             rest = cc (here .rest);
             filled =
-                filled-step noStretch (whole jobs choice close n) at array s
-                (omega (arith, length-whole jobs choice close n most, here .low)) (cc (here .rest)) (here .filled);
+                filled-step noStretch (whole jobs choice close n) (λ k. suc at ≤ k) (λ k. at ≤ k) at array s
+                (omega (arith, length-whole jobs choice close n most, here .low)) (cc (here .rest)) (λ k q n. omega arith) (here .filled);
           }
 
       -- it does not: the rule's answer is this position
       pub pass-fails : fits (getD jobs at noJob) v bound ≡ false →
-          record { failing = i; stretches = replicate 16 noStretch } ≡ placing (backward noJob jobs n) close (backward 0 choice n)
+          record { failing = i; stretches = replicate maxJobs noStretch } ≡ stretched (backward noJob jobs n) close (backward 0 choice n)
       pass-fails unfit =
-          rw last (sym (placing-fails _ _ _ at ((rw (← named, unfit) at (here .fails)) ∙ ap suc (length-backward noJob jobs at))))
+          rw last (sym (stretched-fails _ _ _ at ((rw (← named, unfit) at (here .fails)) ∙ ap suc (length-backward noJob jobs at))))
 
-    -- no job is left: the rule's answer is the array
+    -- no job is nextBound: the rule's answer is the array
     pub pass-end : i ≡ 0 →
-        record { failing = 0; stretches = array } ≡ placing (backward noJob jobs n) close (backward 0 choice n)
+        record { failing = 0; stretches = array } ≡ stretched (backward noJob jobs n) close (backward 0 choice n)
     pass-end first =
         let end : Pass jobs choice close n array bound 0 = subst (λ (k : ℕ). Pass jobs choice close n array bound k) first h in
-        rw (placing-meets _ _ _ (end .fails), filled-all noStretch (whole jobs choice close n) array (end .filled))
+        rw (stretched-meets _ _ _ (end .fails), filled-all noStretch (whole jobs choice close n) (λ k. 0 ≤ k) array (λ k l. omega arith) (end .filled))

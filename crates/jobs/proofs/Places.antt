@@ -1,20 +1,18 @@
--- Lists that stand last first, and the arrays that hold them in list order: laws over any elements.
+-- Lists that stand last first, the arrays that hold them in list order, and arrays by a function: laws over any elements.
 use Prim.Native.Nat.{ℕ, zero, suc, _+_, _-_, _≤_, _<_}
 use native.Mathlib.Omega.{arith}
-use native.Mathlib.Nat.{eq-or-lt-of-le}
-use mathlib.Core.Path.{_≡_, refl, ap, ap₂, subst, _∙_}
-use mathlib.Core.Logic.{⊎-elim}
+use mathlib.Core.Path.{_≡_, refl, ap, ap₂, _∙_}
 use mathlib.Core.List.{List, [], _∷_, _++_, append-assoc}
-use lib.ListN.{length, getD, set, replicate, length-append, length-replicate, length-set}
-use lib.Seq.{getD-at, getD-append-add, getD-set-same, getD-set-other, ext-getD}
-use Rattle.jobs.specs.Model.{backward, forward, placed}
+use lib.ListN.{length, getD, replicate, length-append, length-replicate}
+use lib.Seq.{getD-at, getD-append-add}
+use Rattle.jobs.specs.Model.{backward, forward, tabulate, placed}
 
 module _ {A : Type 0} where
   pub length-backward : (d : A) (xs : List A) (i : ℕ) → length (backward d xs i) ≡ i
   length-backward d xs zero = refl
   length-backward d xs (suc i) = ap suc (length-backward d xs i)
 
-  pub length-forward : (xs : List A) → length (forward xs) ≡ length xs
+  length-forward : (xs : List A) → length (forward xs) ≡ length xs
   length-forward [] = refl
   length-forward (x ∷ xs) = simp length-append (omega (arith, length-forward xs))
 
@@ -42,23 +40,16 @@ module _ {A : Type 0} where
   pub backward-placed : (m : ℕ) (d : A) (xs : List A) → backward d (placed m d xs) (length xs) ≡ xs
   backward-placed m d xs = backward-forward d xs (replicate (m - length xs) d)
 
-  -- an array that is filled from its end down to i with the entries of another
-  pub record Filled (d : A) (to : List A) (i : ℕ) (array : List A) : Type 0 where
-    pub size : length array ≡ length to
-    pub done : (k : ℕ) → i ≤ k → getD array k d ≡ getD to k d
+  pub length-tabulate : (f : ℕ → A) (a m : ℕ) → length (tabulate f a m) ≡ m
+  length-tabulate f a zero = refl
+  length-tabulate f a (suc m) = ap suc (length-tabulate f (suc a) m)
 
-  pub filled-step : (d : A) (to : List A) (i : ℕ) (array : List A) (a : A) → i < length to → a ≡ getD to i d →
-      Filled d to (suc i) array → Filled d to i (set array i a)
-  filled-step d to i array a low same h =
-      record {
-        size = length-set array i a ∙ h .size;
-        done = λ k from.
-            ⊎-elim
-            (λ (e : i ≡ k).
-            subst (λ (l : ℕ). getD (set array i a) l d ≡ getD to l d) e (getD-set-same array i a d (omega (arith, h .size)) ∙ same))
-            (λ (l : i < k). getD-set-other array i k a d (omega arith) ∙ h .done k l)
-            (eq-or-lt-of-le from);
-      }
+  tabulate-from : (f : ℕ → A) (a m i : ℕ) (d : A) → i < m → getD (tabulate f a m) i d ≡ f (a + i)
+  tabulate-from f a zero i d l = absurd (omega arith)
+  tabulate-from f a (suc m) zero d l = let e : a ≡ a + 0 = omega arith in ap f e
+  tabulate-from f a (suc m) (suc i) d l =
+      let e : suc a + i ≡ a + suc i = omega arith in
+      tabulate-from f (suc a) m i d (omega arith) ∙ ap f e
 
-  pub filled-all : (d : A) (to array : List A) → Filled d to 0 array → array ≡ to
-  filled-all d to array h = ext-getD d array to (h .size) (λ k l. h .done k (omega arith))
+  pub tabulate-at : (f : ℕ → A) (m i : ℕ) (d : A) → i < m → getD (tabulate f 0 m) i d ≡ f i
+  tabulate-at f m i d l = let e : 0 + i ≡ i = omega arith in tabulate-from f 0 m i d l ∙ ap f e

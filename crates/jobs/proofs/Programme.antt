@@ -9,7 +9,7 @@ use lib.Dec.{ltb}
 use borrow.Author.Tests.{ltb-true, ltb-false, lt-ltb, le-ltb}
 use Rattle.jobs.specs.declared.model.Job.{Job}
 use Rattle.jobs.specs.Model.{versionOf}
-use Rattle.jobs.specs.Rule.{fits, left, meets}
+use Rattle.jobs.specs.Rule.{fits, nextBound, meets}
 use Rattle.jobs.specs.Choice.{total, under, choices}
 use Rattle.jobs.specs.Best.{greater, firstBest, best}
 use Rattle.jobs.proofs.FirstBest.{firstBest-append, firstBest-map, firstBest-none}
@@ -28,7 +28,7 @@ among v f zero = none
 among v f (suc n) = greater v (among v f n) (f (suc n))
 
 -- the first best by the last job's version, for any test and any value
-pub firstBest-under : (p : List ℕ → Bool) (v : List ℕ → ℕ) (cs : List (List ℕ)) (n : ℕ) →
+firstBest-under : (p : List ℕ → Bool) (v : List ℕ → ℕ) (cs : List (List ℕ)) (n : ℕ) →
     firstBest p v (under n cs) ≡ among v (λ k. firstBest p v (map (λ (c : List ℕ). k ∷ c) cs)) n
 firstBest-under p v cs zero = refl
 firstBest-under p v cs (suc n) =
@@ -48,10 +48,10 @@ module _ (j : Job) (js : List Job) (x : ℕ) where
   -- one version of the last job
   best-under : (cs : List (List ℕ)) (k : ℕ) (q : Bool) → fits j (versionOf j k) x ≡ q →
       firstBest (meets (j ∷ js) x) (total (j ∷ js)) (map (λ (c : List ℕ). k ∷ c) cs)
-      ≡ cond q (within k (firstBest (meets js (left j (versionOf j k) x)) (total js) cs)) none
+      ≡ cond q (within k (firstBest (meets js (nextBound j (versionOf j k) x)) (total js) cs)) none
   best-under cs k true h =
       firstBest-map
-      (meets js (left j (versionOf j k) x))
+      (meets js (nextBound j (versionOf j k) x))
       (meets (j ∷ js) x)
       (total js)
       (total (j ∷ js))
@@ -64,7 +64,7 @@ module _ (j : Job) (js : List Job) (x : ℕ) where
   -- the law
   pub best-step :
       best (j ∷ js) x
-      ≡ among (total (j ∷ js)) (λ k. step j x k (best js (left j (versionOf j k) x))) (j .count)
+      ≡ among (total (j ∷ js)) (λ k. step j x k (best js (nextBound j (versionOf j k) x))) (j .count)
   unfolding best
   best-step =
       firstBest-under (meets (j ∷ js) x) (total (j ∷ js)) (choices js) (j .count)

@@ -10,10 +10,10 @@ use lib.Dec.{eqb·suc-zero}
 use borrow.Author.Tests.{leb-true}
 use Rattle.jobs.specs.declared.model.Version.{Version}
 use Rattle.jobs.specs.declared.model.Job.{Job}
-use Rattle.jobs.specs.Model.{versionOf, placed}
-use Rattle.jobs.specs.Rule.{endOf, stretchOf, fits, left, meets, failing, stretches}
+use Rattle.jobs.specs.Model.{maxJobs, versionOf, placed}
+use Rattle.jobs.specs.Rule.{endOf, stretchOf, fits, nextBound, meets, failing, stretches}
 use Rattle.jobs.specs.Choice.{Valid}
-use Rattle.jobs.specs.Contract.{noStretch, placing}
+use Rattle.jobs.specs.Contract.{noStretch, stretched}
 
 -- a version that is read and fits: its minutes lie between the job's ready minute and the end of its stretch
 pub fits-read : (j : Job) (v : Version) (x : ℕ) → fits j v x ≡ true → v .read ≡ true → j .ready + v .cost ≤ endOf j x
@@ -21,27 +21,27 @@ unfolding fits
 fits-read j v x h r = leb-true _ _ (rw (r, fits) at h)
 
 -- the bound that a version leaves, by whether it is read
-pub left-read : (j : Job) (v : Version) (x : ℕ) → v .read ≡ true → left j v x ≡ endOf j x - v .cost
-unfolding left stretchOf
-left-read j v x r = rw r
+pub bound-read : (j : Job) (v : Version) (x : ℕ) → v .read ≡ true → nextBound j v x ≡ endOf j x - v .cost
+unfolding nextBound stretchOf
+bound-read j v x r = rw r
 
-pub left-aside : (j : Job) (v : Version) (x : ℕ) → v .read ≡ false → left j v x ≡ x
-unfolding left stretchOf
-left-aside j v x r = rw r
+pub bound-aside : (j : Job) (v : Version) (x : ℕ) → v .read ≡ false → nextBound j v x ≡ x
+unfolding nextBound stretchOf
+bound-aside j v x r = rw r
 
 -- a job that is ready at t or later and fits under a bound of t or later leaves a bound from t to that one
-pub left-in : (j : Job) (v : Version) (x t : ℕ) → t ≤ j .ready → t ≤ x → fits j v x ≡ true → (t ≤ left j v x) × (left j v x ≤ x)
-left-in j v x t ready from fit = by-read (v .read) refl
+pub bound-in : (j : Job) (v : Version) (x t : ℕ) → t ≤ j .ready → t ≤ x → fits j v x ≡ true → (t ≤ nextBound j v x) × (nextBound j v x ≤ x)
+bound-in j v x t ready from fit = by-read (v .read) refl
   where
-    by-read : (q : Bool) → v .read ≡ q → (t ≤ left j v x) × (left j v x ≤ x)
-    by-read true r = omega (arith, left-read j v x r, fits-read j v x fit r)
-    by-read false r = omega (arith, left-aside j v x r)
+    by-read : (q : Bool) → v .read ≡ q → (t ≤ nextBound j v x) × (nextBound j v x ≤ x)
+    by-read true r = omega (arith, bound-read j v x r, fits-read j v x fit r)
+    by-read false r = omega (arith, bound-aside j v x r)
 
 -- a choice meets the rule exactly where no position fails
 pub meets-failing : (js : List Job) (x : ℕ) (ks : List ℕ) → (meets js x ks ≡ true) ↔ (failing js x ks ≡ 0)
 meets-failing [] x ks = (λ h. refl, λ h. refl)
 meets-failing (j ∷ js) x [] = (λ h. absurd (false≢true h), λ h. absurd (omega arith))
-meets-failing (j ∷ js) x (k ∷ ks) = by-fit (fits j (versionOf j k) x) (meets-failing js (left j (versionOf j k) x) ks)
+meets-failing (j ∷ js) x (k ∷ ks) = by-fit (fits j (versionOf j k) x) (meets-failing js (nextBound j (versionOf j k) x) ks)
   where
     by-fit : (q : Bool) {m : Bool} {n : ℕ} → (m ≡ true) ↔ (n ≡ 0) → ((q && m) ≡ true) ↔ (cond q n (suc (length js)) ≡ 0)
     by-fit true h = h
@@ -58,15 +58,15 @@ valid-length (j ∷ js) (k ∷ ks) h = ap suc (valid-length js ks (h .2))
 pub length-stretches : (js : List Job) (x : ℕ) (ks : List ℕ) → length ks ≡ length js → length (stretches js x ks) ≡ length js
 length-stretches [] x ks h = refl
 length-stretches (j ∷ js) x [] h = h
-length-stretches (j ∷ js) x (k ∷ ks) h = ap suc (length-stretches js (left j (versionOf j k) x) ks (omega arith))
+length-stretches (j ∷ js) x (k ∷ ks) h = ap suc (length-stretches js (nextBound j (versionOf j k) x) ks (omega arith))
 
 -- the rule's answer where it is met, and where position n fails
-pub placing-meets : (js : List Job) (x : ℕ) (ks : List ℕ) → failing js x ks ≡ 0 →
-    placing js x ks ≡ record { failing = 0; stretches = placed 16 noStretch (stretches js x ks) }
-unfolding placing
-placing-meets js x ks h = rw h
+pub stretched-meets : (js : List Job) (x : ℕ) (ks : List ℕ) → failing js x ks ≡ 0 →
+    stretched js x ks ≡ record { failing = 0; stretches = placed maxJobs noStretch (stretches js x ks) }
+unfolding stretched
+stretched-meets js x ks h = rw h
 
-pub placing-fails : (js : List Job) (x : ℕ) (ks : List ℕ) (n : ℕ) → failing js x ks ≡ suc n →
-    placing js x ks ≡ record { failing = suc n; stretches = replicate 16 noStretch }
-unfolding placing
-placing-fails js x ks n h = rw (h, eqb·suc-zero)
+pub stretched-fails : (js : List Job) (x : ℕ) (ks : List ℕ) (n : ℕ) → failing js x ks ≡ suc n →
+    stretched js x ks ≡ record { failing = suc n; stretches = replicate maxJobs noStretch }
+unfolding stretched
+stretched-fails js x ks n h = rw (h, eqb·suc-zero)

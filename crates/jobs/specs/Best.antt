@@ -38,16 +38,14 @@ pub record Chosen (js : List Job) (x : ℕ) (ch : List ℕ) : Type 0 where
   pub others : (c : List ℕ) → Valid js c → meets js x c ≡ true → (c ≡ ch → ⊥) →
       (total js c < total js ch) ⊎ ((total js c ≡ total js ch) × Higher ch c)
 
--- 01, "The picks table": "the recipe that the best choice for batches 1 to i, with x as the closing minute, gives to
--- batch i; it is 0 if no choice exists"
-abbrev pub headOr : List ℕ → ℕ
-headOr [] = 0
-headOr (k ∷ ks) = k
-
+-- the last job's version of a choice; 0 for none
 abbrev pub lastVersion : Option (List ℕ) → ℕ
 lastVersion none = 0
-lastVersion (some c) = headOr c
+lastVersion (some []) = 0
+lastVersion (some (k ∷ ks)) = k
 
+-- 01, "The picks table": "the recipe that the best choice for batches 1 to i, with x as the closing minute, gives to batch i; it
+-- is 0 if no choice exists"
 abbrev pub pick : List Job → ℕ → ℕ
 pick js x = lastVersion (best js x)
 

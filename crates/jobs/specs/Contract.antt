@@ -8,7 +8,7 @@ use lib.Dec.{eqb}
 use Rattle.jobs.specs.declared.model.Job.{Job}
 use Rattle.jobs.specs.declared.model.JobList.{JobList}
 use Rattle.jobs.specs.declared.rule.Stretch.{Stretch}
-use Rattle.jobs.specs.declared.rule.Placing.{Placing}
+use Rattle.jobs.specs.declared.rule.Stretched.{Stretched}
 use Rattle.jobs.specs.Model.{maxJobs, maxVersions, noJob, placed, jobsOf, chosen}
 use Rattle.jobs.specs.Rule.{failing, stretches}
 use Rattle.jobs.specs.Choice.{total}
@@ -30,8 +30,8 @@ abbrev pub noStretch : Stretch
 noStretch = record { start = 0; end = 0 }
 
 -- the position where the rule fails, or 0 and every stretch in its place
-unfoldable pub placing : List Job → ℕ → List ℕ → Placing
-placing js x ks =
+unfoldable pub stretched : List Job → ℕ → List ℕ → Stretched
+stretched js x ks =
     record {
       failing = failing js x ks;
       stretches = cond (eqb (failing js x ks) 0) (placed maxJobs noStretch (stretches js x ks)) (replicate maxJobs noStretch);

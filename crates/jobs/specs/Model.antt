@@ -37,6 +37,11 @@ module _ {A : Type 0} where
   forward [] = []
   forward (x ∷ xs) = forward xs ++ (x ∷ [])
 
+  -- f a, f (a + 1), .., m of them
+  abbrev pub tabulate : (ℕ → A) → ℕ → ℕ → List A
+  tabulate f a zero = []
+  tabulate f a (suc m) = f a ∷ tabulate f (suc a) m
+
   -- 01: "Places of an answer beyond n hold 0": an array of m, in list order, with d beyond
   abbrev pub placed : ℕ → A → List A → List A
   placed m d xs = forward xs ++ replicate (m - length xs) d

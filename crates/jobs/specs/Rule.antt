@@ -26,23 +26,23 @@ unfoldable pub fits : Job → Version → ℕ → Bool
 fits j v x = cond (v .read) (leb (j .ready + v .cost) (endOf j x)) true
 
 -- "The start becomes the next bound."
-unfoldable pub left : Job → Version → ℕ → ℕ
-left j v x = stretchOf j v x .start
+unfoldable pub nextBound : Job → Version → ℕ → ℕ
+nextBound j v x = stretchOf j v x .start
 
 -- "It meets the rule if what the rule asks holds at every batch."
 abbrev pub meets : List Job → ℕ → List ℕ → Bool
 meets [] x ks = true
 meets (j ∷ js) x [] = false
-meets (j ∷ js) x (k ∷ ks) = fits j (versionOf j k) x && meets js (left j (versionOf j k) x) ks
+meets (j ∷ js) x (k ∷ ks) = fits j (versionOf j k) x && meets js (nextBound j (versionOf j k) x) ks
 
 -- refusal 15: "the first failing position met going backward", or 0
 abbrev pub failing : List Job → ℕ → List ℕ → ℕ
 failing [] x ks = 0
 failing (j ∷ js) x [] = suc (length js)
-failing (j ∷ js) x (k ∷ ks) = cond (fits j (versionOf j k) x) (failing js (left j (versionOf j k) x) ks) (suc (length js))
+failing (j ∷ js) x (k ∷ ks) = cond (fits j (versionOf j k) x) (failing js (nextBound j (versionOf j k) x) ks) (suc (length js))
 
 -- the stretches of a choice, the last job's first
 abbrev pub stretches : List Job → ℕ → List ℕ → List Stretch
 stretches [] x ks = []
 stretches (j ∷ js) x [] = []
-stretches (j ∷ js) x (k ∷ ks) = stretchOf j (versionOf j k) x ∷ stretches js (left j (versionOf j k) x) ks
+stretches (j ∷ js) x (k ∷ ks) = stretchOf j (versionOf j k) x ∷ stretches js (nextBound j (versionOf j k) x) ks

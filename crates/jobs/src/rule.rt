@@ -6,7 +6,7 @@ ghost use mathlib.Core.Path.{_≡_};
 ghost use mathlib.Core.Bool.{true};
 ghost use Rattle.jobs.specs.Model.{jobsOf, chosen};
 ghost use Rattle.jobs.specs.Rule.{endOf, fits as fitsOf, stretchOf};
-ghost use Rattle.jobs.specs.Contract.{Names, placing};
+ghost use Rattle.jobs.specs.Contract.{Names, stretched};
 
 // The minutes that the rule keeps for a job: from start to end, end not counted.
 pub struct Stretch {
@@ -15,7 +15,7 @@ pub struct Stretch {
 }
 
 // The rule's answer for a choice: 0 and a stretch for each job in list order, or the position where it fails.
-pub struct Placing {
+pub struct Stretched {
     pub failing: usize,
     pub stretches: [Stretch; JobList::MAX_JOBS],
 }
@@ -59,9 +59,9 @@ impl Job {
 }
 
 // Going backward from the close: the stretches of a choice, or the first position that fails.
-pub fn place(list: JobList, close: u16, choice: &[u8]) -> Placing
+pub fn stretch_all(list: JobList, close: u16, choice: &[u8]) -> Stretched
     requires { ⌜ Names list (now choice) ⌝ }
-    ensures { λ r. ⌜ r ≡ placing (jobsOf list) close (chosen list (now (choice .entry))) ⌝ }
+    ensures { λ r. ⌜ r ≡ stretched (jobsOf list) close (chosen list (now (choice .entry))) ⌝ }
 {
     let nothing = [Stretch { start: 0, end: 0 }; JobList::MAX_JOBS];
     let jobs = list.jobs;
@@ -73,7 +73,7 @@ pub fn place(list: JobList, close: u16, choice: &[u8]) -> Placing
         let j = jobs[at];
         let v = j.version(choice[at]);
         if !j.fits(v, bound) {
-            return Placing {
+            return Stretched {
                 failing: i,
                 stretches: nothing,
             };
@@ -83,7 +83,7 @@ pub fn place(list: JobList, close: u16, choice: &[u8]) -> Placing
         bound = s.start;
         i = at;
     }
-    Placing {
+    Stretched {
         failing: 0,
         stretches,
     }

@@ -6,15 +6,15 @@ use mathlib.Core.Path.{_≡_, refl, sym, ap, _∙_}
 use mathlib.Core.Bool.{not}
 use mathlib.Core.List.{List, [], _∷_}
 use borrow.Author.Tests.{eq-eqb, ne-eqb}
-use Rattle.jobs.specs.declared.rule.Placing.{Placing}
+use Rattle.jobs.specs.declared.rule.Stretched.{Stretched}
 use Rattle.jobs.specs.Rule.{failing}
 use Rattle.jobs.specs.Choice.{total}
-use Rattle.jobs.specs.Contract.{placing}
-use Rattle.jobs.proofs.Rules.{placing-meets}
+use Rattle.jobs.specs.Contract.{stretched}
+use Rattle.jobs.proofs.Rules.{stretched-meets}
 use Rattle.week.specs.declared.record.Week.{Week}
 use Rattle.week.specs.declared.refusal.Refusal.{Refusal}
-use Rattle.week.specs.Refusal.{accepted, refused, firstOf}
-use Rattle.week.specs.Fault.{listFault, choiceFault}
+use Rattle.week.specs.Refusal.{accepted, refused}
+use Rattle.week.specs.Fault.{listFault, choiceFault, handedFault}
 use Rattle.week.proofs.First.{number-of, or-first, or-second, firstOf-one, firstOf-append, firstOf-proper, refusedIf-true}
 use Rattle.week.proofs.First.{refusedIf-false, refusedIf-proper}
 use Rattle.planner.specs.declared.check.Checked.{Checked}
@@ -22,10 +22,6 @@ use Rattle.planner.specs.Job.{weekJobs}
 use Rattle.planner.specs.Check.{weekChoice, ruleFault, checkFault, passed, refusedCheck, checkAnswer}
 
 module _ (w : Week) (choice : List ℕ) where
-  -- the refusals of the list and of the choice
-  abbrev handed : Refusal
-  handed = firstOf (listFault w ∷ choiceFault w choice ∷ [])
-
   abbrev failed : ℕ
   failed = failing (weekJobs w) (w .closing) (weekChoice w choice)
 
@@ -46,16 +42,16 @@ module _ (w : Week) (choice : List ℕ) where
         | no n ↦ ap (λ (a : Checked). a .refusal) (answer-refused refl n)
       ]
 
-  pub fault-handed : (handed .number ≡ 0 → ⊥) → checkFault w choice ≡ handed
-  unfolding checkFault
+  pub fault-handed : (handedFault w choice .number ≡ 0 → ⊥) → checkFault w choice ≡ handedFault w choice
+  unfolding checkFault handedFault
   fault-handed n =
-      firstOf-append (listFault w ∷ choiceFault w choice ∷ []) (ruleFault w choice ∷ []) ∙ or-first handed _ n
+      firstOf-append (listFault w ∷ choiceFault w choice ∷ []) (ruleFault w choice ∷ []) ∙ or-first (handedFault w choice) _ n
 
-  pub fault-rule : handed .number ≡ 0 → checkFault w choice ≡ ruleFault w choice
-  unfolding checkFault ruleFault
+  pub fault-rule : handedFault w choice .number ≡ 0 → checkFault w choice ≡ ruleFault w choice
+  unfolding checkFault handedFault ruleFault
   fault-rule z =
       firstOf-append (listFault w ∷ choiceFault w choice ∷ []) (ruleFault w choice ∷ [])
-      ∙ or-second handed _ z
+      ∙ or-second (handedFault w choice) _ z
       ∙ firstOf-one (ruleFault w choice) (refusedIf-proper _ _ _ _)
 
   pub rule-met : failed ≡ 0 → ruleFault w choice ≡ accepted
@@ -67,13 +63,13 @@ module _ (w : Week) (choice : List ℕ) where
   rule-broken n = refusedIf-true 15 failed 0 (ap not (ne-eqb failed 0 n))
 
   -- p is the rule's answer for a list and a choice that have passed
-  module _ {p : Placing} (handed-passed : handed .number ≡ 0) (is : p ≡ placing (weekJobs w) (w .closing) (weekChoice w choice)) where
+  module _ {p : Stretched} (handed-passed : handedFault w choice .number ≡ 0) (is : p ≡ stretched (weekJobs w) (w .closing) (weekChoice w choice)) where
     failed-at : p .failing ≡ failed
-    unfolding placing
-    failed-at = ap (λ (q : Placing). q .failing) is
+    unfolding stretched
+    failed-at = ap (λ (q : Stretched). q .failing) is
 
-    pub placing-refused : {r : Refusal} → r ≡ refused 15 (p .failing) 0 → (p .failing ≡ 0 → ⊥) → checkAnswer w choice ≡ refusedCheck r
-    placing-refused e n =
+    pub stretched-refused : {r : Refusal} → r ≡ refused 15 (p .failing) 0 → (p .failing ≡ 0 → ⊥) → checkAnswer w choice ≡ refusedCheck r
+    stretched-refused e n =
         answer-refused
         (fault-rule handed-passed
         ∙ rule-broken (λ z. n (failed-at ∙ z))
@@ -81,9 +77,9 @@ module _ (w : Week) (choice : List ℕ) where
         ∙ sym e)
         (λ z. omega (arith, number-of e))
 
-    pub placing-passed : p .failing ≡ 0 → {r : Refusal} → r ≡ accepted → {sum : ℕ} → sum ≡ total (weekJobs w) (weekChoice w choice) →
+    pub stretched-passed : p .failing ≡ 0 → {r : Refusal} → r ≡ accepted → {sum : ℕ} → sum ≡ total (weekJobs w) (weekChoice w choice) →
         checkAnswer w choice ≡ record { refusal = r; total = sum; stretches = p .stretches }
     unfolding passed
-    placing-passed z none added =
+    stretched-passed z none added =
         let met : failed ≡ 0 = sym failed-at ∙ z in
-        answer-passed (number-of (fault-rule handed-passed ∙ rule-met met)) ∙ rw (none, added, is, placing-meets _ _ _ met)
+        answer-passed (number-of (fault-rule handed-passed ∙ rule-met met)) ∙ rw (none, added, is, stretched-meets _ _ _ met)

@@ -1,4 +1,3 @@
 pub mod Demands
-pub mod Mapped
 pub mod Jobs
 pub mod Checking

@@ -1,5 +1,5 @@
 -- Document 01, "Fixed examples", A to L, computed from the definitions: one table, one claim.
-use Prim.Native.Nat.{ℕ, zero, suc, _*_, _-_}
+use Prim.Native.Nat.{ℕ, zero, suc, _+_, _*_, _-_}
 use mathlib.Core.Path.{_≡_, refl}
 use mathlib.Core.Bool.{Bool, true, false, _&&_}
 use mathlib.Core.List.{List, [], _∷_, _++_}
@@ -8,19 +8,16 @@ use lib.ListN.{length, take, replicate}
 use lib.Dec.{eqb}
 use Rattle.jobs.specs.declared.rule.Stretch.{Stretch}
 use Rattle.jobs.specs.Model.{forward}
-use Rattle.jobs.specs.Rule.{stretchOf, fits, left}
+use Rattle.jobs.specs.Rule.{stretchOf, fits, nextBound}
 use Rattle.jobs.specs.Choice.{total}
-use Rattle.jobs.specs.Best.{best}
-use Rattle.edf.specs.declared.Outcome.{Outcome}
-use Rattle.edf.specs.declared.Outcome.the-variants.{SetAside, Finished, Unfinished}
-use Rattle.edf.specs.Run.{entries, minutesLeft, firstOpen, logOf, idle, changesAfter, changes, upToLast, outcomeOf}
-use Rattle.edf.specs.Jobs.{runLog, runOutcome}
+use Rattle.jobs.specs.Best.{best, pick}
+use Rattle.edf.specs.Run.{entries, minutesLeft, firstOpen, logOf, idle, changesAfter, changes, upToLast, outcomeOf, outcomeNumbers}
 use Rattle.week.specs.declared.record.Recipe.{Recipe}
 use Rattle.week.specs.declared.record.Batch.{Batch}
 use Rattle.week.specs.declared.record.Week.{Week}
 use Rattle.week.specs.Record.{maxBatches, maxRecipes, noRecipe, emptyBatch, before}
 use Rattle.week.specs.Refusal.{refusedIf, orElse, firstOf, first}
-use Rattle.week.specs.Fault.{weekFault, costAt, worthAt, numberAt, order, batchFault, listFault, nameAt, choiceFault}
+use Rattle.week.specs.Fault.{weekFault, costFault, worthFault, repeatFault, orderFault, batchFault, listFault, nameFault, choiceFault}
 use Rattle.planner.specs.declared.check.Checked.{Checked}
 use Rattle.planner.specs.Job.{weekJobs}
 use Rattle.planner.specs.Check.{ruleFault, checkFault, passed, refusedCheck, checkAnswer}
@@ -69,6 +66,16 @@ weekJ = week 0 10 (batch 1 5 9 (recipe 4 1 ∷ []) ∷ batch 2 0 10 (recipe 5 1 
 weekK : ℕ → Week
 weekK d = week 20 30 (batch 1 5 d (recipe 1 1 ∷ []) ∷ [])
 
+weekLate : Week
+weekLate = week 0 4 (batch 1 0 2 (recipe 3 1 ∷ []) ∷ batch 2 0 4 (recipe 3 1 ∷ []) ∷ [])
+
+-- two minutes read, one idle, two read, two idle
+weekGap : Week
+weekGap = week 0 7 (batch 1 0 3 (recipe 2 1 ∷ []) ∷ batch 2 3 6 (recipe 2 1 ∷ []) ∷ [])
+
+weekP : List Recipe → Week
+weekP rs = week 0 3 (batch 1 0 3 rs ∷ [])
+
 -- The answers as numbers.
 -- the total of the best choice and its recipes in list order; 14 if there is none
 abbrev planNumbers : Week → Option (List ℕ) → List ℕ
@@ -90,18 +97,18 @@ checkNumbers n a =
 abbrev check : Week → List ℕ → List ℕ
 check w choice = checkNumbers (w .count) (checkAnswer w choice)
 
-abbrev finish : Outcome → ℕ
-finish SetAside = 0
-finish (Finished m) = m
-finish (Unfinished l) = 0
+abbrev outcomes : Week → List ℕ → ℕ → List ℕ
+outcomes w choice zero = []
+outcomes w choice (suc i) = outcomes w choice i ++ outcomeNumbers (weekOutcome w choice i)
 
-abbrev finishes : Week → List ℕ → ℕ → List ℕ
-finishes w choice zero = []
-finishes w choice (suc i) = finishes w choice i ++ (finish (weekOutcome w choice i) ∷ [])
-
--- the run's changes and idle minutes, and each batch's finish
+-- the run's changes and idle minutes, and each batch's outcome: 0 0 set aside, 1 and the minute finished, 2 and the minutes nextBound
 abbrev run : Week → List ℕ → List ℕ
-run w choice = changes (weekLog w choice) ∷ idle (weekLog w choice) ∷ finishes w choice (w .count)
+run w choice = changes (weekLog w choice) ∷ idle (weekLog w choice) ∷ outcomes w choice (w .count)
+
+-- the first w entries of the last batch's row of the picks table
+abbrev picks : Week → ℕ → List ℕ
+picks w zero = []
+picks w (suc m) = picks w m ++ (pick (weekJobs w) (w .opening + m) ∷ [])
 
 -- What the definitions say, and what document 01 says.
 record Example : Type 0 where
@@ -122,7 +129,7 @@ table =
     -- C
     ∷ (check weekW (1 ∷ 1 ∷ 1 ∷ []) is (15 ∷ 1 ∷ 0 ∷ 0 ∷ 0 ∷ 0 ∷ 0 ∷ 0 ∷ 0 ∷ 0 ∷ []))
     -- D
-    ∷ (run weekW (2 ∷ 1 ∷ 1 ∷ []) is (4 ∷ 10 ∷ 10 ∷ 50 ∷ 90 ∷ []))
+    ∷ (run weekW (2 ∷ 1 ∷ 1 ∷ []) is (4 ∷ 10 ∷ 1 ∷ 10 ∷ 1 ∷ 50 ∷ 1 ∷ 90 ∷ []))
     -- E: the bound for batch 1 is the start of batch 2's stretch, 100
     ∷ (bestPlan (weekE 2340) is (23 ∷ 8 ∷ 1 ∷ 1 ∷ []))
     ∷ (check (weekE 2340) (8 ∷ 1 ∷ 1 ∷ []) is (0 ∷ 0 ∷ 0 ∷ 23 ∷ 7 ∷ 100 ∷ 100 ∷ 1010 ∷ 2120 ∷ 2340 ∷ []))
@@ -135,13 +142,23 @@ table =
     ∷ (bestPlan (weekG (recipe 11 1 ∷ recipe 0 0 ∷ [])) is (0 ∷ 2 ∷ []))
     -- J: no plan, yet the run finishes at 9 and 5
     ∷ (bestPlan weekJ is (14 ∷ []))
-    ∷ (run weekJ (1 ∷ 1 ∷ []) is (2 ∷ 1 ∷ 9 ∷ 5 ∷ []))
+    ∷ (run weekJ (1 ∷ 1 ∷ []) is (2 ∷ 1 ∷ 1 ∷ 9 ∷ 1 ∷ 5 ∷ []))
     -- K
     ∷ (bestPlan (weekK 21) is (1 ∷ 1 ∷ []))
     ∷ (check (weekK 21) (1 ∷ []) is (0 ∷ 0 ∷ 0 ∷ 1 ∷ 20 ∷ 21 ∷ []))
     ∷ (bestPlan (weekK 20) is (14 ∷ []))
     -- L
     ∷ (bestPlan (week 0 10 []) is (0 ∷ []))
+    -- What A to L leave open, worked out from 01's text: a late batch goes on, and the one behind it is nextBound with 2 minutes; a
+    -- batch that is set aside; idle minutes between two batches and after them; and an entry that follows an idle minute
+    ∷ (run weekLate (1 ∷ 1 ∷ []) is (2 ∷ 0 ∷ 1 ∷ 3 ∷ 2 ∷ 2 ∷ []))
+    ∷ (run (weekG (recipe 11 1 ∷ recipe 0 0 ∷ [])) (2 ∷ []) is (0 ∷ 10 ∷ 0 ∷ 0 ∷ []))
+    ∷ (run weekGap (1 ∷ 1 ∷ []) is (2 ∷ 3 ∷ 1 ∷ 2 ∷ 1 ∷ 5 ∷ []))
+    ∷ ((changes (1 ∷ 0 ∷ 1 ∷ 1 ∷ 0 ∷ []) ∷ []) is (2 ∷ []))
+    -- and the picks table's rows
+    ∷ (picks (weekP (recipe 2 3 ∷ recipe 1 3 ∷ [])) 4 is (0 ∷ 2 ∷ 1 ∷ 1 ∷ []))
+    ∷ (picks (weekP (recipe 2 0 ∷ recipe 0 0 ∷ [])) 4 is (2 ∷ 2 ∷ 1 ∷ 1 ∷ []))
+    ∷ (picks weekJ 11 is (0 ∷ 0 ∷ 0 ∷ 0 ∷ 0 ∷ 0 ∷ 0 ∷ 0 ∷ 0 ∷ 0 ∷ 0 ∷ []))
     ∷ []
 
 same : List ℕ → List ℕ → Bool
@@ -156,8 +173,8 @@ agree (e ∷ es) = same (e .said) (e .written) && agree es
 
 examples : agree table ≡ true
 unfolding
-    table same agree weekW weekE weekG weekJ weekK stretchOf fits left best
-    entries minutesLeft firstOpen logOf idle changesAfter changes upToLast outcomeOf runLog runOutcome
-    before refusedIf orElse firstOf first weekFault costAt worthAt numberAt order batchFault listFault nameAt choiceFault
+    table same agree weekW weekE weekG weekJ weekK weekLate weekGap weekP stretchOf fits nextBound best
+    entries minutesLeft firstOpen logOf idle changesAfter changes upToLast outcomeOf outcomeNumbers weekLog weekOutcome
+    before refusedIf orElse firstOf first weekFault costFault worthFault repeatFault orderFault batchFault listFault nameFault choiceFault
     ruleFault checkFault passed refusedCheck checkAnswer
 examples = refl

@@ -1,9 +1,9 @@
 // Check: whether a choice meets the backward rule.
 use crate::job::jobs_of;
 use jobs::rule::Stretch;
-use jobs::rule::place;
+use jobs::rule::stretch_all;
 use jobs::worth::total;
-use week::fault::choice_fault;
+use week::fault::handed_fault;
 use week::record::Week;
 use week::refusal::Refusal;
 ghost use mathlib.Core.Path.{_≡_};
@@ -32,16 +32,16 @@ impl Checked {
 pub fn check(week: Week, choice: &[u8]) -> Checked
     ensures { λ r. ⌜ r ≡ checkAnswer week (now (choice .entry)) ⌝ }
 {
-    let fault = choice_fault(week, choice);
+    let fault = handed_fault(week, choice);
     if fault.number != 0 {
         return Checked::refused(fault);
     }
     let jobs = jobs_of(week);
-    let placing = place(jobs, week.closing, choice);
-    if placing.failing != 0 {
-        return Checked::refused(Refusal::at(15, placing.failing, 0));
+    let stretched = stretch_all(jobs, week.closing, choice);
+    if stretched.failing != 0 {
+        return Checked::refused(Refusal::at(15, stretched.failing, 0));
     }
-    let stretches = placing.stretches;
+    let stretches = stretched.stretches;
     Checked {
         refusal: Refusal::none(),
         total: total(jobs, choice),

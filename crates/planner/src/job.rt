@@ -3,14 +3,18 @@ use jobs::model::Job;
 use jobs::model::JobList;
 use jobs::model::Version;
 use week::record::Batch;
-use week::record::Recipe;
 use week::record::Week;
 ghost use mathlib.Core.Path.{_≡_};
+ghost use Prim.Native.Nat.{_<_};
+ghost use Rattle.week.specs.Record.{maxRecipes};
 ghost use Rattle.planner.specs.Job.{versionFrom, jobFrom, jobListOf};
 
-fn version_of(r: Recipe) -> Version
-    ensures { λ v. ⌜ v ≡ versionFrom r ⌝ }
+// The recipe of index k as a version.
+fn version_of(b: Batch, k: usize) -> Version
+    requires { ⌜ k < maxRecipes ⌝ }
+    ensures { λ v. ⌜ v ≡ versionFrom b k ⌝ }
 {
+    let r = b.recipes[k];
     Version {
         read: r.cost != 0,
         cost: r.cost,
@@ -21,7 +25,6 @@ fn version_of(r: Recipe) -> Version
 fn job_of(opening: u16, b: Batch) -> Job
     ensures { λ j. ⌜ j ≡ jobFrom opening b ⌝ }
 {
-    let recipes = b.recipes;
     let nothing = Version {
         read: false,
         cost: 0,
@@ -29,8 +32,7 @@ fn job_of(opening: u16, b: Batch) -> Job
     };
     let mut versions = [nothing; Batch::MAX_RECIPES];
     for k in 0..Batch::MAX_RECIPES {
-        let r = recipes[k];
-        versions[k] = version_of(r);
+        versions[k] = version_of(b, k);
     }
     Job {
         ready: b.ready(opening),
@@ -45,11 +47,10 @@ pub fn jobs_of(week: Week) -> JobList
     ensures { λ l. ⌜ l ≡ jobListOf week ⌝ }
 {
     let opening = week.opening;
-    let batches = week.batches;
     let nothing = job_of(opening, Batch::empty());
     let mut jobs = [nothing; Week::MAX_BATCHES];
     for i in 0..Week::MAX_BATCHES {
-        let b = batches[i];
+        let b = week.batches[i];
         jobs[i] = job_of(opening, b);
     }
     JobList {

@@ -36,19 +36,19 @@ module _ (a b : Refusal) where
   unfolding orElse
   or-second h = simp (eq-eqb _ _ h)
 
-  pub or-none : orElse a b .number ≡ 0 → (a .number ≡ 0) × (b .number ≡ 0)
+  or-none : orElse a b .number ≡ 0 → (a .number ≡ 0) × (b .number ≡ 0)
   or-none h =
       elim (ℕ-discrete (a .number) 0)
       [ yes z ↦ (z, number-of (sym (or-second z)) ∙ h) | no n ↦ absurd (refuses-too (sym (or-first n)) n h) ]
 
-  pub or-proper : Proper b → Proper (orElse a b)
+  or-proper : Proper b → Proper (orElse a b)
   or-proper p h = let z = or-none h in or-second (z .0) ∙ p (z .1)
 
-  pub or-assoc : (d : Refusal) → orElse (orElse a b) d ≡ orElse a (orElse b d)
+  or-assoc : (d : Refusal) → orElse (orElse a b) d ≡ orElse a (orElse b d)
   unfolding orElse
   or-assoc d = elim (ℕ-discrete (a .number) 0) [ yes z ↦ simp (eq-eqb _ _ z) | no n ↦ simp (ne-eqb _ _ n) ]
 
-pub or-accepted : (a : Refusal) → Proper a → orElse a accepted ≡ a
+or-accepted : (a : Refusal) → Proper a → orElse a accepted ≡ a
 or-accepted a p =
     elim (ℕ-discrete (a .number) 0) [ yes z ↦ or-second a accepted z ∙ sym (p z) | no n ↦ or-first a accepted n ]
 
@@ -130,13 +130,13 @@ module _ (f : ℕ → Refusal) where
         let e : n - i ≡ suc (n - (i + 1)) = omega arith in
         rw (e, add-one)
 
-    pub first-here : i < n → (f i .number ≡ 0 → ⊥) → first f i (n - i) ≡ f i
+    first-here : i < n → (f i .number ≡ 0 → ⊥) → first f i (n - i) ≡ f i
     first-here h z = step h ∙ or-first _ _ z
 
-    pub first-later : i < n → f i .number ≡ 0 → first f i (n - i) ≡ first f (i + 1) (n - (i + 1))
+    first-later : i < n → f i .number ≡ 0 → first f i (n - i) ≡ first f (i + 1) (n - (i + 1))
     first-later h z = step h ∙ or-second _ _ z
 
-    pub first-end : n ≤ i → first f i (n - i) ≡ accepted
+    first-end : n ≤ i → first f i (n - i) ≡ accepted
     unfolding first
     first-end h =
         let e : n - i ≡ 0 = omega arith in

@@ -1,3 +1,3 @@
 pub mod First
-pub mod Sizes
+pub mod Owned
 pub mod Sound

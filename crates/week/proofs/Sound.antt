@@ -9,11 +9,11 @@ use lib.Dec.{ltb, eqb}
 use borrow.Author.Tests.{eqb-true, eqb-false, ltb-false, leb-false, not-false}
 use Rattle.week.specs.declared.record.Week.{Week}
 use Rattle.week.specs.Record.{maxMinutes, maxBatches, maxRecipes, batchAt}
-use Rattle.week.specs.Fault.{weekFault, recipeCount, batchFault, listFault, nameAt, choiceFault}
+use Rattle.week.specs.Fault.{weekFault, countFault, batchFault, listFault, nameFault, choiceFault}
 use Rattle.week.proofs.First.{firstOf-none, first-none, refusedIf-none}
 
 -- n is from 1 to m
-abbrev pub FromOne : ℕ → ℕ → Type 0
+abbrev FromOne : ℕ → ℕ → Type 0
 FromOne n m = (1 ≤ n) × (n ≤ m)
 
 -- the tests of 4 and 13 pass
@@ -35,7 +35,7 @@ week-limits w h =
     )
 
 -- 4 passes
-pub recipe-count : (w : Week) (i : ℕ) → recipeCount w i .number ≡ 0 → FromOne (batchAt w i .count) maxRecipes
+pub recipe-count : (w : Week) (i : ℕ) → countFault w i .number ≡ 0 → FromOne (batchAt w i .count) maxRecipes
 recipe-count w i h = from-one _ _ _ _ refl refl (refusedIf-none _ _ _ _ h)
 
 -- 4 passes at each batch of the list
@@ -48,7 +48,7 @@ recipe-counts w h i l =
 -- 13 passes at each batch of the list
 names : (w : Week) (choice : List ℕ) → choiceFault w choice .number ≡ 0 →
     (i : ℕ) → i < w .count → FromOne (getD choice i 0) (batchAt w i .count)
-unfolding choiceFault nameAt
+unfolding choiceFault nameFault
 names w choice h i l =
     let batches = firstOf-none _ _ (firstOf-none _ _ h .1) .0 in
     from-one _ _ _ _ refl refl (refusedIf-none 12 (suc i) 0 _ (first-none _ _ batches i l))

@@ -1,19 +1,17 @@
 -- `check` meets its contract: each return is one of the cases of `Checking`.
 use mathlib.Core.Path.{_≡_, sym, ap, _∙_}
-use mathlib.Core.List.{[], _∷_}
 use Rattle.jobs.specs.declared.model.JobList.{JobList}
 use Rattle.jobs.specs.Model.{jobsOf, chosen}
 use Rattle.jobs.specs.Choice.{total}
-use Rattle.jobs.specs.Contract.{Answerable, placing}
-use Rattle.week.specs.Refusal.{firstOf}
-use Rattle.week.specs.Fault.{listFault, choiceFault}
+use Rattle.jobs.specs.Contract.{Answerable, stretched}
+use Rattle.week.specs.Fault.{handedFault}
 use Rattle.week.proofs.First.{number-of, firstOf-none}
-use Rattle.week.proofs.Sizes.{week-sized}
+use Rattle.week.proofs.Owned.{worths-fit}
 use Rattle.week.proofs.Sound.{sound, named}
 use Rattle.planner.specs.Job.{jobListOf, weekJobs}
 use Rattle.planner.specs.Check.{weekChoice}
 use Rattle.planner.proofs.Jobs.{answerable}
-use Rattle.planner.proofs.Checking.{answer-refused, fault-handed, placing-refused, placing-passed}
+use Rattle.planner.proofs.Checking.{answer-refused, fault-handed, stretched-refused, stretched-passed}
 use borrow.Author.Needs.{needs}
 use Rattle.planner.proofs.check.check.Statement.{statement}
 use Rattle.planner.proofs.check.check.Tie as tie
@@ -21,38 +19,39 @@ use Rattle.planner.proofs.check.check.Tie as tie
 -- the list and the choice have passed
 passed-both : (c : tie.Else1) →
     let args = c .before .before .before .before .args in
-    firstOf (listFault (args .week) ∷ choiceFault (args .week) (args .choice .now) ∷ []) .number ≡ 0
-passed-both c = sym (number-of (c .before .before .choice-fault .ensures)) ∙ c .if1 .left
+    handedFault (args .week) (args .choice .now) .number ≡ 0
+passed-both c = sym (number-of (c .before .before .handed-fault .ensures)) ∙ c .if1 .left
 
 -- so the choice names a version of each job, and its total fits 32 bits
 has-answer : (c : tie.Else1) →
     let args = c .before .before .before .before .args in
     Answerable (jobListOf (args .week)) (args .choice .now)
+unfolding handedFault
 has-answer c =
     let start = c .before .before .before .before in
     let list = firstOf-none _ _ (passed-both c) in
     let names = firstOf-none _ _ (list .1) in
-    answerable _ _ (week-sized (start .args .week) _ (start .good .0)) (sound _ (list .0)) (named _ _ (names .0))
+    answerable _ _ (sound _ (list .0)) (named _ _ (names .0)) (worths-fit (start .args .week) _ (start .good .0))
 
 -- and the rule's answer is over the jobs of the week
-placing-of : (c : tie.After-place) →
+stretched-of : (c : tie.After-stretch-all) →
     let args = c .before .before .before .before .before .before .args in
-    c .place .result ≡ placing (weekJobs (args .week)) (args .week .closing) (weekChoice (args .week) (args .choice .now))
-placing-of c =
+    c .stretch-all .result ≡ stretched (weekJobs (args .week)) (args .week .closing) (weekChoice (args .week) (args .choice .now))
+stretched-of c =
     let args = c .before .before .before .before .before .before .args in
-    c .place .ensures
-    ∙ ap (λ (list : JobList). placing (jobsOf list) (args .week .closing) (chosen list (args .choice .now)))
+    c .stretch-all .ensures
+    ∙ ap (λ (list : JobList). stretched (jobsOf list) (args .week .closing) (chosen list (args .choice .now)))
     (c .before .jobs-of .ensures)
 
-choice-fault-requires : tie.Need-choice-fault-requires
-choice-fault-requires c κs = search needs
+handed-fault-requires : tie.Need-handed-fault-requires
+handed-fault-requires c κs = search needs
 
 refused-requires : tie.Need-refused-requires
 refused-requires c κs = search needs
 
 returns : tie.Need-returns
 returns c =
-    let fault = c .before .before .before .choice-fault .ensures in
+    let fault = c .before .before .before .handed-fault .ensures in
     let refuses = c .before .if1 .taken in
     c .refused .ensures
     ∙ sym (answer-refused _ _ (fault-handed _ _ (λ z. refuses (number-of fault ∙ z)) ∙ sym fault) refuses)
@@ -60,8 +59,8 @@ returns c =
 jobs-of-requires : tie.Need-jobs-of-requires
 jobs-of-requires c κs = search needs
 
-place-requires : tie.Need-place-requires
-place-requires c κs = rw (c .jobs-of .ensures) (has-answer (c .before) .names)
+stretch-all-requires : tie.Need-stretch-all-requires
+stretch-all-requires c κs = rw (c .jobs-of .ensures) (has-answer (c .before) .names)
 
 at-requires : tie.Need-at-requires
 at-requires c κs = search needs
@@ -73,7 +72,7 @@ returns-2 : tie.Need-returns-2
 returns-2 c =
     let placed = c .before .before .before .before in
     c .refused2 .ensures
-    ∙ sym (placing-refused _ _ (passed-both (placed .before .before)) (placing-of placed)
+    ∙ sym (stretched-refused _ _ (passed-both (placed .before .before)) (stretched-of placed)
     (c .before .at .ensures) (c .before .before .if2 .taken))
 
 none-requires : tie.Need-none-requires
@@ -88,7 +87,7 @@ returns-3 : tie.Need-returns-3
 returns-3 c =
     let placed = c .before .before .before .before .before in
     let args = placed .before .before .before .before .before .before .args in
-    sym (placing-passed _ _ (passed-both (placed .before .before)) (placing-of placed)
+    sym (stretched-passed _ _ (passed-both (placed .before .before)) (stretched-of placed)
     (c .before .before .before .if2 .left)
     (c .before .none .ensures)
     (c .total .ensures
@@ -98,11 +97,11 @@ pub check-spec : {M : Type 1} → statement M
 check-spec =
     tie.close
     (tie.spec
-    choice-fault-requires
+    handed-fault-requires
     refused-requires
     returns
     jobs-of-requires
-    place-requires
+    stretch-all-requires
     at-requires
     refused-requires-2
     returns-2

@@ -6,14 +6,14 @@ use native.Mathlib.Numerals.{add-one}
 use native.Mathlib.Omega.{arith}
 use mathlib.Core.Path.{_≡_, refl, sym, _∙_}
 use mathlib.Core.Logic.{⊎-elim}
-use mathlib.Core.List.{[], _∷_}
+use mathlib.Core.List.{_∷_}
 use borrow.Author.Needs.{needs}
 use borrow.Author.Tests.{lt-ltb, le-ltb}
 use Rattle.week.specs.declared.record.Week.{Week}
 use Rattle.week.specs.declared.refusal.Refusal.{Refusal}
-use Rattle.week.specs.Record.{batchAt}
+use Rattle.week.specs.Record.{maxRecipes, batchAt}
 use Rattle.week.specs.Refusal.{refusedIf, orElse, firstOf, first}
-use Rattle.week.specs.Fault.{recipeCount, dueMinute, arrivalMinute, costAt, costs, worths, numberZero, numberTaken, order, batchFault}
+use Rattle.week.specs.Fault.{costFault, costsFault, beforeCosts, afterCosts, batchFault}
 use Rattle.week.proofs.First.{
   number-of,
   refuses,
@@ -32,7 +32,7 @@ use Rattle.week.proofs.fault.batches_fault.Tie as tie
 
 abbrev Inv-loop : tie.InvT-loop
 Inv-loop week n i b count k₀ k =
-    (1 ≤ k) × (k ≤ count) × (count ≤ 10) × (first (costAt b i) k (count - k) ≡ costs week i)
+    (1 ≤ k) × (k ≤ count) × (count ≤ maxRecipes) × (first (costFault b i) k (count - k) ≡ costsFault week i)
 
 abbrev μ-loop : tie.MeasureT-loop
 μ-loop week n i b count k₀ k = count - k
@@ -47,12 +47,12 @@ abbrev μ-batches : tie.MeasureT-batches
 -- 4 to 6, then 7, then 8 to 10
 parts : (w : Week) (i : ℕ) →
     batchFault w i
-    ≡ orElse (firstOf (recipeCount w i ∷ dueMinute w i ∷ arrivalMinute w i ∷ []))
-    (orElse (costs w i) (firstOf (worths w i ∷ numberZero w i ∷ numberTaken w i ∷ order w i ∷ [])))
+    ≡ orElse (firstOf (beforeCosts w i))
+    (orElse (costsFault w i) (firstOf (afterCosts w i)))
 unfolding batchFault firstOf
 parts w i =
-    firstOf-append (recipeCount w i ∷ dueMinute w i ∷ arrivalMinute w i ∷ [])
-    (costs w i ∷ worths w i ∷ numberZero w i ∷ numberTaken w i ∷ order w i ∷ [])
+    firstOf-append (beforeCosts w i)
+    (costsFault w i ∷ afterCosts w i)
 
 -- what refuses the batch that the loop has come to is the answer
 at-batch : {r : Refusal} (c : tie.Else1 Inv-loop μ-loop Inv-batches μ-batches) →
@@ -65,15 +65,15 @@ own-passes : (c : tie.Else2 Inv-loop μ-loop Inv-batches μ-batches) →
     let at = c .before .before .before .before in
     let w = at .before .args .t1 in
     let i = at .batches .i in
-    firstOf (recipeCount w i ∷ dueMinute w i ∷ arrivalMinute w i ∷ []) .number ≡ 0
-own-passes c = number-of (sym (c .before .before .own-fault .ensures)) ∙ c .if2 .left
+    firstOf (beforeCosts w i) .number ≡ 0
+own-passes c = number-of (sym (c .before .before .before-costs .ensures)) ∙ c .if2 .left
 
 -- 7 refuses the recipe that the inner loop has come to
 at-recipe : {r : Refusal} (c : tie.In-loop Inv-loop μ-loop Inv-batches μ-batches) →
     let own = c .before .before .before in
     let at = own .before .before .before .before in
     let w = at .before .args .t1 in
-    r ≡ costAt (batchAt w (at .batches .i)) (at .batches .i) (c .before .loop .k) → (r .number ≡ 0 → ⊥) →
+    r ≡ costFault (batchAt w (at .batches .i)) (at .batches .i) (c .before .loop .k) → (r .number ≡ 0 → ⊥) →
     r ≡ first (batchFault w) 0 (w .count)
 at-recipe c e z =
     let own = c .before .before .before in
@@ -82,17 +82,17 @@ at-recipe c e z =
     (found ∙ sym (parts _ _ ∙ or-second _ _ (own-passes own) ∙ or-first _ _ (refuses-too found z)))
     z
 
--- 4 to 7 pass: `later_fault` decides
-at-later : (c : tie.After-later-fault Inv-loop μ-loop Inv-batches μ-batches) →
+-- 4 to 7 pass: `after_costs` decides
+at-later : (c : tie.After-after-costs Inv-loop μ-loop Inv-batches μ-batches) →
     let at = c .before .before .before .before .before .before .before .before in
-    batchFault (at .before .args .t1) (at .batches .i) ≡ c .later-fault .result
+    batchFault (at .before .args .t1) (at .batches .i) ≡ c .after-costs .result
 at-later c =
     let over = c .before in
     let recipes = over .before in
     parts _ _
     ∙ or-second _ _ (own-passes (recipes .before .before))
     ∙ or-second _ _ (number-of (sym (search-over _ _ _ (recipes .loop .inv .3) (over .loop-test .left))))
-    ∙ sym (c .later-fault .ensures)
+    ∙ sym (c .after-costs .ensures)
 
 batches-holds : tie.Need-batches-holds Inv-loop μ-loop Inv-batches μ-batches
 batches-holds c = (search needs, simp sub-zero)
@@ -100,8 +100,8 @@ batches-holds c = (search needs, simp sub-zero)
 none-requires : tie.Need-none-requires Inv-loop μ-loop Inv-batches μ-batches
 none-requires c κs = search needs
 
-own-fault-requires : tie.Need-own-fault-requires Inv-loop μ-loop Inv-batches μ-batches
-own-fault-requires c κs = search needs
+before-costs-requires : tie.Need-before-costs-requires Inv-loop μ-loop Inv-batches μ-batches
+before-costs-requires c κs = search needs
 
 mul-b : tie.Need-mul-b Inv-loop μ-loop Inv-batches μ-batches
 mul-b c = search needs
@@ -147,7 +147,7 @@ loop-less : tie.Need-loop-less Inv-loop μ-loop Inv-batches μ-batches
 loop-less c = search needs
 
 loop-again : tie.Need-loop-again Inv-loop μ-loop Inv-batches μ-batches
-unfolding costAt refusedIf
+unfolding costFault refusedIf
 loop-again c =
     let falls = c .before .before in
     let at = falls .before .before .before .before .before .before in (
@@ -157,8 +157,8 @@ loop-again c =
       search-on _ _ _ (at .loop .inv .3) (omega arith) (simp (le-ltb _ _ (falls .if3 .left), c .if4 .left)),
     )
 
-later-fault-requires : tie.Need-later-fault-requires Inv-loop μ-loop Inv-batches μ-batches
-later-fault-requires c κs = search needs
+after-costs-requires : tie.Need-after-costs-requires Inv-loop μ-loop Inv-batches μ-batches
+after-costs-requires c κs = search needs
 
 add-i : tie.Need-add-i Inv-loop μ-loop Inv-batches μ-batches
 add-i c = search needs
@@ -180,11 +180,11 @@ returns c = c .none .ensures ∙ search-over _ _ _ (c .before .before .batches .
 returns-2 : tie.Need-returns-2 Inv-loop μ-loop Inv-batches μ-batches
 returns-2 c =
     let asked = c .before .before in
-    let e = asked .own-fault .ensures in
+    let e = asked .before-costs .ensures in
     at-batch (asked .before) (e ∙ sym (parts _ _ ∙ or-first _ _ (refuses-too e (c .if2 .taken)))) (c .if2 .taken)
 
 returns-3 : tie.Need-returns-3 Inv-loop μ-loop Inv-batches μ-batches
-unfolding costAt refusedIf
+unfolding costFault refusedIf
 returns-3 c =
     let faulty = c .before in
     at-recipe (faulty .before .before .before .before .before)
@@ -209,7 +209,7 @@ batches-fault-spec =
     μ-batches
     batches-holds
     none-requires
-    own-fault-requires
+    before-costs-requires
     mul-b
     element-copy-out-b
     loop-holds
@@ -224,7 +224,7 @@ batches-fault-spec =
     add-k
     loop-less
     loop-again
-    later-fault-requires
+    after-costs-requires
     add-i
     batches-less
     batches-again

@@ -1,28 +1,103 @@
--- `choice_fault` answers the first of 1 to 10 and 13.
-use mathlib.Core.Path.{_≡_, sym, _∙_}
+-- `choice_fault` answers 13. The invariant: the names from i on decide.
+use Prim.Native.Nat.{_≤_, _-_}
+use native.Mathlib.Numerals.{add-one}
+use native.Mathlib.Omega.{arith}
+use mathlib.Core.Path.{_≡_, _∙_}
+use mathlib.Core.Logic.{⊎-elim}
 use borrow.Author.Needs.{needs}
-use Rattle.week.specs.Fault.{listFault, choiceFault}
-use Rattle.week.proofs.First.{number-of, firstOf-here, firstOf-last, firstOf-proper}
-use Rattle.week.proofs.Sound.{sound}
+use borrow.Author.Tests.{eq-eqb, ne-eqb}
+use Rattle.week.specs.Refusal.{refusedIf, firstOf, first, orElse}
+use Rattle.week.specs.Fault.{nameFault, choiceFault}
+use Rattle.week.proofs.First.{refuses, search-after, search-found, search-on, search-over}
 use Rattle.week.proofs.fault.choice_fault.Statement.{statement}
 use Rattle.week.proofs.fault.choice_fault.Tie as tie
 
--- 1 to 10 pass
-list-passes : (c : tie.Else1) → listFault (c .before .before .before .before .args .week) .number ≡ 0
-list-passes c = number-of (sym (c .before .before .list-fault .ensures)) ∙ c .if1 .left
+abbrev Inv-loop : tie.InvT-loop
+Inv-loop choice week n i₀ i = (i ≤ n) × (first (nameFault week choice) i (n - i) ≡ choiceFault week choice)
 
-list-fault-requires : tie.Need-list-fault-requires
-list-fault-requires c κs = search needs
+abbrev μ-loop : tie.MeasureT-loop
+μ-loop choice week n i₀ i = n - i
 
-returns : tie.Need-returns
-returns c = rw (← c .before .before .list-fault .ensures) (sym (firstOf-here _ _ (c .if1 .taken)))
+at-requires : tie.Need-at-requires Inv-loop μ-loop
+at-requires c κs = search needs
 
-name-fault-requires : tie.Need-name-fault-requires
-name-fault-requires c κs = sound _ (list-passes c) .most
+returns : tie.Need-returns Inv-loop μ-loop
+unfolding choiceFault firstOf refusedIf orElse
+returns c = simp (c .at .ensures, ne-eqb _ _ (c .before .if1 .taken))
 
-returns-2 : tie.Need-returns-2
+loop-holds : tie.Need-loop-holds Inv-loop μ-loop
 unfolding choiceFault
-returns-2 c = c .name-fault .ensures ∙ sym (firstOf-last _ _ (list-passes (c .before)) (firstOf-proper _))
+loop-holds c = (search needs, search-after _ _ _ _ _ (rw (eq-eqb _ _ (c .if1 .left))))
+
+mul-b : tie.Need-mul-b Inv-loop μ-loop
+mul-b c = search needs
+
+element-copy-out-b : tie.Need-element-copy-out-b Inv-loop μ-loop
+element-copy-out-b c = search needs
+
+shared-slice-read-k : tie.Need-shared-slice-read-k Inv-loop μ-loop
+shared-slice-read-k c = search needs
+
+cast-k : tie.Need-cast-k Inv-loop μ-loop
+cast-k c = omega (arith, c .shared-slice-known2 .given (c .before .before .before .loop .i))
+
+add-at : tie.Need-add-at Inv-loop μ-loop
+add-at c = search needs
+
+at-requires-2 : tie.Need-at-requires-2 Inv-loop μ-loop
+at-requires-2 c κs = search needs
+
+returns-2 : tie.Need-returns-2 Inv-loop μ-loop
+unfolding nameFault refusedIf
+returns-2 c =
+    let unnamed = c .before in
+    let at = unnamed .before .before .before .before in
+    search-found _ _ _ (at .loop .inv .1) (omega arith)
+    (⊎-elim
+    (λ w. simp (c .at2 .ensures, add-one, eq-eqb _ _ (w .taken)))
+    (λ w. simp (c .at2 .ensures, add-one, ne-eqb _ _ (w .0 .left), w .2 .taken))
+    (unnamed .if2 .came))
+    (refuses (c .at2 .ensures))
+
+add-i : tie.Need-add-i Inv-loop μ-loop
+add-i c = search needs
+
+loop-less : tie.Need-loop-less Inv-loop μ-loop
+loop-less c = search needs
+
+loop-again : tie.Need-loop-again Inv-loop μ-loop
+unfolding nameFault refusedIf
+loop-again c =
+    let named = c .before .before in
+    let at = named .before .before .before .before in (
+      omega arith,
+      search-on _ _ _ (at .loop .inv .1) (omega arith) (simp (ne-eqb _ _ (named .if2 .left), c .if3 .left)),
+    )
+
+none-requires : tie.Need-none-requires Inv-loop μ-loop
+none-requires c κs = search needs
+
+returns-3 : tie.Need-returns-3 Inv-loop μ-loop
+returns-3 c = c .none .ensures ∙ search-over _ _ _ (c .before .before .loop .inv .1) (c .before .loop-test .left)
 
 pub choice-fault-spec : {M : Type 1} → statement M
-choice-fault-spec = tie.close (tie.spec list-fault-requires returns name-fault-requires returns-2)
+choice-fault-spec =
+    tie.close
+    (tie.spec
+    Inv-loop
+    μ-loop
+    at-requires
+    returns
+    loop-holds
+    mul-b
+    element-copy-out-b
+    shared-slice-read-k
+    cast-k
+    add-at
+    at-requires-2
+    returns-2
+    add-i
+    loop-less
+    loop-again
+    none-requires
+    returns-3)

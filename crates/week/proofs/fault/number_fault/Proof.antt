@@ -3,18 +3,17 @@ use Prim.Native.Nat.{_≤_, _-_}
 use native.Mathlib.Numerals.{add-one}
 use native.Mathlib.Omega.{arith}
 use mathlib.Core.Path.{_≡_, _∙_}
-use mathlib.Core.List.{[], _∷_}
 use borrow.Author.Needs.{needs}
 use borrow.Author.Tests.{eq-eqb, ne-eqb}
 use Rattle.week.specs.Refusal.{refusedIf, firstOf, first, orElse}
-use Rattle.week.specs.Fault.{numberZero, numberTaken, numberAt}
+use Rattle.week.specs.Fault.{numberFaults, repeatFault}
 use Rattle.week.proofs.First.{refuses, search-after, search-found, search-on, search-over}
 use Rattle.week.proofs.fault.number_fault.Statement.{statement}
 use Rattle.week.proofs.fault.number_fault.Tie as tie
 
 abbrev Inv-loop : tie.InvT-loop
 Inv-loop i week b h₀ h =
-    (h ≤ i) × (first (numberAt week i) h (i - h) ≡ firstOf (numberZero week i ∷ numberTaken week i ∷ []))
+    (h ≤ i) × (first (repeatFault week i) h (i - h) ≡ firstOf (numberFaults week i))
 
 abbrev μ-loop : tie.MeasureT-loop
 μ-loop i week b h₀ h = i - h
@@ -51,7 +50,7 @@ at-requires-2 : tie.Need-at-requires-2 Inv-loop μ-loop
 at-requires-2 c κs = search needs
 
 returns-2 : tie.Need-returns-2 Inv-loop μ-loop
-unfolding numberAt refusedIf
+unfolding repeatFault refusedIf
 returns-2 c =
     let taken = c .before in
     let at = taken .before .before .before .before .before in
@@ -66,7 +65,7 @@ loop-less : tie.Need-loop-less Inv-loop μ-loop
 loop-less c = search needs
 
 loop-again : tie.Need-loop-again Inv-loop μ-loop
-unfolding numberAt refusedIf
+unfolding repeatFault refusedIf
 loop-again c =
     let at = c .before .before .before .before .before in
     (omega arith, search-on _ _ _ (at .loop .inv .1) (omega arith) (simp (ne-eqb _ _ (c .if2 .left))))

@@ -3,6 +3,7 @@ use Prim.Native.Nat.{_-_}
 use native.Mathlib.Omega.{arith}
 use borrow.Author.Needs.{needs}
 use borrow.Author.Tests.{le-leb, lt-leb, lt-ltb, le-ltb}
+use Rattle.week.specs.Record.{maxMinutes, maxBatches}
 use Rattle.week.specs.Refusal.{refusedIf, firstOf, orElse}
 use Rattle.week.specs.Fault.{weekFault}
 use Rattle.week.proofs.fault.week_fault.Statement.{statement}
@@ -30,7 +31,7 @@ returns-2 c =
     simp (
       c .at2 .ensures,
       lt-leb (w .closing) (w .opening) (omega arith),
-      lt-ltb 2400 (w .closing - w .opening) (omega arith),
+      lt-ltb maxMinutes (w .closing - w .opening) (omega arith),
     )
 
 at-requires-3 : tie.Need-at-requires-3
@@ -43,8 +44,8 @@ returns-3 c =
     simp (
       c .at3 .ensures,
       lt-leb (w .closing) (w .opening) (omega arith),
-      le-ltb 2400 (w .closing - w .opening) (omega arith),
-      lt-ltb 16 (w .count) (omega arith),
+      le-ltb maxMinutes (w .closing - w .opening) (omega arith),
+      lt-ltb maxBatches (w .count) (omega arith),
     )
 
 none-requires : tie.Need-none-requires
@@ -57,8 +58,8 @@ returns-4 c =
     simp (
       c .none .ensures,
       lt-leb (w .closing) (w .opening) (omega arith),
-      le-ltb 2400 (w .closing - w .opening) (omega arith),
-      le-ltb 16 (w .count) (omega arith),
+      le-ltb maxMinutes (w .closing - w .opening) (omega arith),
+      le-ltb maxBatches (w .count) (omega arith),
     )
 
 pub week-fault-spec : {M : Type 1} → statement M

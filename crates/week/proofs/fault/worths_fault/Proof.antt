@@ -8,13 +8,13 @@ use mathlib.Core.Logic.{⊎-elim}
 use borrow.Author.Needs.{needs}
 use borrow.Author.Tests.{eq-eqb, ne-eqb}
 use Rattle.week.specs.Refusal.{refusedIf, first}
-use Rattle.week.specs.Fault.{worthAt}
+use Rattle.week.specs.Fault.{worthFault}
 use Rattle.week.proofs.First.{refuses, search-found, search-on, search-over}
 use Rattle.week.proofs.fault.worths_fault.Statement.{statement}
 use Rattle.week.proofs.fault.worths_fault.Tie as tie
 
 abbrev Inv-loop : tie.InvT-loop
-Inv-loop i b n k₀ k = (k ≤ n) × (first (worthAt b i) k (n - k) ≡ first (worthAt b i) 0 n)
+Inv-loop i b n k₀ k = (k ≤ n) × (first (worthFault b i) k (n - k) ≡ first (worthFault b i) 0 n)
 
 abbrev μ-loop : tie.MeasureT-loop
 μ-loop i b n k₀ k = n - k
@@ -44,7 +44,7 @@ at-requires : tie.Need-at-requires Inv-loop μ-loop
 at-requires c κs = search needs
 
 returns : tie.Need-returns Inv-loop μ-loop
-unfolding worthAt refusedIf
+unfolding worthFault refusedIf
 returns c =
     let worth = c .before in
     let cost = worth .before .before in
@@ -60,7 +60,7 @@ loop-less : tie.Need-loop-less Inv-loop μ-loop
 loop-less c = search needs
 
 loop-again : tie.Need-loop-again Inv-loop μ-loop
-unfolding worthAt refusedIf
+unfolding worthFault refusedIf
 loop-again c =
     let at = c .before .before .before .before in (
       omega arith,

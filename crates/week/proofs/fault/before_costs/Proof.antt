@@ -1,4 +1,4 @@
--- `own_fault` answers the first of 4 to 6: each return has the tests that its conditions ask.
+-- `before_costs` answers the first of 4 to 6: each return has the tests that its conditions ask.
 use native.Mathlib.Numerals.{add-one}
 use native.Mathlib.Omega.{arith}
 use mathlib.Core.Logic.{⊎-elim}
@@ -6,8 +6,8 @@ use borrow.Author.Needs.{needs}
 use borrow.Author.Tests.{eq-eqb, ne-eqb, le-leb, lt-leb}
 use Rattle.week.specs.Record.{batchAt}
 use Rattle.week.specs.Refusal.{refusedIf, firstOf, orElse}
-use Rattle.week.proofs.fault.own_fault.Statement.{statement}
-use Rattle.week.proofs.fault.own_fault.Tie as tie
+use Rattle.week.proofs.fault.before_costs.Statement.{statement}
+use Rattle.week.proofs.fault.before_costs.Tie as tie
 
 mul-b : tie.Need-mul-b
 mul-b c = search needs
@@ -87,8 +87,8 @@ returns-4 c =
       lt-leb (a .t1 .closing) (b .arrival) (omega arith),
     )
 
-pub own-fault-spec : {M : Type 1} → statement M
-own-fault-spec =
+pub before-costs-spec : {M : Type 1} → statement M
+before-costs-spec =
     tie.close
     (tie.spec
     mul-b

@@ -1,4 +1,4 @@
--- `place` meets its contract. The loop's invariant is that of the pass; the measure is how many jobs are left.
+-- `stretch_all` meets its contract. The loop's invariant is that of the pass; the measure is how many jobs are nextBound.
 use borrow.Author.Needs.{needs}
 use borrow.Author.Tests.{not-true, not-false}
 use native.Mathlib.Omega.{arith}
@@ -6,8 +6,8 @@ use Prim.Native.Nat.{_-_}
 use mathlib.Core.Path.{sym, _∙_}
 use Rattle.jobs.proofs.Named.{named-version}
 use Rattle.jobs.proofs.Pass.{Pass, pass-start, pass-step, pass-fails, pass-end}
-use Rattle.jobs.proofs.rule.place.Statement.{statement}
-use Rattle.jobs.proofs.rule.place.Tie as tie
+use Rattle.jobs.proofs.rule.stretch_all.Statement.{statement}
+use Rattle.jobs.proofs.rule.stretch_all.Tie as tie
 
 abbrev Inv-loop : tie.InvT-loop
 Inv-loop close choice nothing jobs stretches₀ bound₀ i₀ stretches bound i = Pass jobs choice close i₀ stretches bound i
@@ -67,8 +67,8 @@ loop-again c =
 returns-2 : tie.Need-returns-2 Inv-loop μ-loop
 returns-2 c = pass-end (c .before .loop .inv) (omega arith)
 
-pub place-spec : {M : Type 1} → statement M
-place-spec =
+pub stretch-all-spec : {M : Type 1} → statement M
+stretch-all-spec =
     tie.close
     (tie.spec
     Inv-loop

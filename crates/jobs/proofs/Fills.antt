@@ -1,0 +1,60 @@
+-- An array that a loop fills, one store a turn, with the entries of another: in any order, and from the front by a function.
+use Prim.Native.Nat.{ℕ, _+_, _≤_, _<_}
+use native.Mathlib.Decide.{ℕ-discrete}
+use native.Mathlib.Omega.{arith}
+use mathlib.Core.Path.{_≡_, sym, subst, _∙_}
+use mathlib.Core.List.{List}
+use lib.ListN.{length, getD, set, length-set}
+use lib.Seq.{getD-set-same, getD-set-other, ext-getD}
+use Rattle.jobs.specs.Model.{tabulate}
+use Rattle.jobs.proofs.Places.{length-tabulate, tabulate-at}
+
+module _ {A : Type 0} where
+  -- the array has the entries of `to` at the indices P
+  pub record Filled (d : A) (to : List A) (P : ℕ → Type 0) (array : List A) : Type 0 where
+    pub size : length array ≡ length to
+    pub done : (k : ℕ) → P k → getD array k d ≡ getD to k d
+
+  -- a store at i leaves the other indices
+  pub filled-step : (d : A) (to : List A) (P Q : ℕ → Type 0) (i : ℕ) (array : List A) (a : A) → i < length to → a ≡ getD to i d →
+      ((k : ℕ) → Q k → (k ≡ i → ⊥) → P k) → Filled d to P array → Filled d to Q (set array i a)
+  filled-step d to P Q i array a low same others h =
+      record {
+        size = length-set array i a ∙ h .size;
+        done = λ k q.
+            elim (ℕ-discrete k i) [
+              | yes e ↦ subst (λ (l : ℕ). getD (set array i a) l d ≡ getD to l d) (sym e)
+                  (getD-set-same array i a d (omega (arith, h .size)) ∙ same)
+              | no n ↦ getD-set-other array i k a d n ∙ h .done k (others k q n)
+            ];
+      }
+
+  pub filled-all : (d : A) (to : List A) (P : ℕ → Type 0) (array : List A) → ((k : ℕ) → k < length to → P k) →
+      Filled d to P array → array ≡ to
+  filled-all d to P array all h = ext-getD d array to (h .size) (λ k l. h .done k (all k (omega (arith, h .size))))
+
+  -- the array, of m, has f below i
+  pub record Tabulated (f : ℕ → A) (m : ℕ) (d : A) (i : ℕ) (array : List A) : Type 0 where
+    pub within : i ≤ m
+    pub filled : Filled d (tabulate f 0 m) (λ k. k < i) array
+
+  pub tabulated-start : (f : ℕ → A) (m : ℕ) (d : A) (array : List A) → length array ≡ m → Tabulated f m d 0 array
+  tabulated-start f m d array e =
+      record {
+        within = omega arith;
+        filled = record { size = e ∙ sym (length-tabulate f 0 m); done = λ k l. absurd (omega arith) };
+      }
+
+  module _ {f : ℕ → A} {m : ℕ} {d : A} {i : ℕ} {array : List A} (h : Tabulated f m d i array) where
+    pub tabulated-step : i < m → {a : A} → a ≡ f i → Tabulated f m d (i + 1) (set array i a)
+    tabulated-step more {a} e =
+        record {
+          within = omega arith;
+          filled =
+              filled-step d (tabulate f 0 m) (λ k. k < i) (λ k. k < i + 1) i array a (omega (arith, length-tabulate f 0 m))
+              (e ∙ sym (tabulate-at f m i d more)) (λ k q n. omega arith) (h .filled);
+        }
+
+    pub tabulated-end : m ≤ i → array ≡ tabulate f 0 m
+    tabulated-end over =
+        filled-all d (tabulate f 0 m) (λ k. k < i) array (λ k l. omega (arith, length-tabulate f 0 m)) (h .filled)
