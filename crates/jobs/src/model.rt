@@ -24,7 +24,7 @@ impl Job {
     pub const MAX_VERSIONS: usize = 10;
 
     // Version k of this job, counted from 1.
-    pub fn version(self, k: u8) -> Version
+    pub(crate) fn version(self, k: u8) -> Version
         requires { ⌜ (1 ≤ k) × (k ≤ maxVersions) ⌝ }
         ensures { λ r. ⌜ r ≡ versionOf self k ⌝ }
     {

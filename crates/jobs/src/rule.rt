@@ -29,7 +29,7 @@ impl Job {
     }
 
     // Whether version v of this job meets the rule under a bound.
-    pub fn fits(self, v: Version, bound: u16) -> bool
+    fn fits(self, v: Version, bound: u16) -> bool
         ensures { λ r. ⌜ r ≡ fitsOf self v bound ⌝ }
     {
         if !v.read {
@@ -40,7 +40,7 @@ impl Job {
     }
 
     // The stretch of version v of this job under a bound.
-    pub fn stretch(self, v: Version, bound: u16) -> Stretch
+    fn stretch(self, v: Version, bound: u16) -> Stretch
         requires { ⌜ fitsOf self v bound ≡ true ⌝ }
         ensures { λ r. ⌜ r ≡ stretchOf self v bound ⌝ }
     {
