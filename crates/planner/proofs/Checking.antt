@@ -63,23 +63,26 @@ module _ (w : Week) (choice : List ℕ) where
   rule-broken n = refusedIf-true 15 failed 0 (ap not (ne-eqb failed 0 n))
 
   -- p is the rule's answer for a list and a choice that have passed
-  module _ {p : Stretched} (handed-passed : handedFault w choice .number ≡ 0) (is : p ≡ stretched (weekJobs w) (w .closing) (weekChoice w choice)) where
-    failed-at : p .failing ≡ failed
-    unfolding stretched
-    failed-at = ap (λ (q : Stretched). q .failing) is
+  module _
+      {p : Stretched} (handed-passed : handedFault w choice .number ≡ 0)
+      (is : p ≡ stretched (weekJobs w) (w .closing) (weekChoice w choice))
+    where
+      failed-at : p .failing ≡ failed
+      unfolding stretched
+      failed-at = ap (λ (q : Stretched). q .failing) is
 
-    pub stretched-refused : {r : Refusal} → r ≡ refused 15 (p .failing) 0 → (p .failing ≡ 0 → ⊥) → checkAnswer w choice ≡ refusedCheck r
-    stretched-refused e n =
-        answer-refused
-        (fault-rule handed-passed
-        ∙ rule-broken (λ z. n (failed-at ∙ z))
-        ∙ ap (λ (at : ℕ). refused 15 at 0) (sym failed-at)
-        ∙ sym e)
-        (λ z. omega (arith, number-of e))
+      pub stretched-refused : {r : Refusal} → r ≡ refused 15 (p .failing) 0 → (p .failing ≡ 0 → ⊥) → checkAnswer w choice ≡ refusedCheck r
+      stretched-refused e n =
+          answer-refused
+          (fault-rule handed-passed
+          ∙ rule-broken (λ z. n (failed-at ∙ z))
+          ∙ ap (λ (at : ℕ). refused 15 at 0) (sym failed-at)
+          ∙ sym e)
+          (λ z. omega (arith, number-of e))
 
-    pub stretched-passed : p .failing ≡ 0 → {r : Refusal} → r ≡ accepted → {sum : ℕ} → sum ≡ total (weekJobs w) (weekChoice w choice) →
-        checkAnswer w choice ≡ record { refusal = r; total = sum; stretches = p .stretches }
-    unfolding passed
-    stretched-passed z none added =
-        let met : failed ≡ 0 = sym failed-at ∙ z in
-        answer-passed (number-of (fault-rule handed-passed ∙ rule-met met)) ∙ rw (none, added, is, stretched-meets _ _ _ met)
+      pub stretched-passed : p .failing ≡ 0 → {r : Refusal} → r ≡ accepted → {sum : ℕ} → sum ≡ total (weekJobs w) (weekChoice w choice) →
+          checkAnswer w choice ≡ record { refusal = r; total = sum; stretches = p .stretches }
+      unfolding passed
+      stretched-passed z none added =
+          let met : failed ≡ 0 = sym failed-at ∙ z in
+          answer-passed (number-of (fault-rule handed-passed ∙ rule-met met)) ∙ rw (none, added, is, stretched-meets _ _ _ met)

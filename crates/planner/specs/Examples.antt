@@ -10,7 +10,7 @@ use Rattle.jobs.specs.declared.rule.Stretch.{Stretch}
 use Rattle.jobs.specs.Model.{forward}
 use Rattle.jobs.specs.Rule.{stretchOf, fits, nextBound}
 use Rattle.jobs.specs.Choice.{total}
-use Rattle.jobs.specs.Best.{best, pick}
+use Rattle.jobs.specs.Best.{best, pick, score}
 use Rattle.edf.specs.Run.{entries, minutesLeft, firstOpen, logOf, idle, changesAfter, changes, upToLast, outcomeOf, outcomeNumbers}
 use Rattle.week.specs.declared.record.Recipe.{Recipe}
 use Rattle.week.specs.declared.record.Batch.{Batch}
@@ -73,6 +73,15 @@ weekLate = week 0 4 (batch 1 0 2 (recipe 3 1 ∷ []) ∷ batch 2 0 4 (recipe 3 1
 weekGap : Week
 weekGap = week 0 7 (batch 1 0 3 (recipe 2 1 ∷ []) ∷ batch 2 3 6 (recipe 2 1 ∷ []) ∷ [])
 
+-- a batch that arrives after the bound, and is set aside or not
+weekAside : Week
+weekAside =
+    week 0 10
+    (batch 1 0 4 (recipe 2 1 ∷ [])
+    ∷ batch 2 8 9 (recipe 1 5 ∷ recipe 0 0 ∷ [])
+    ∷ batch 3 0 10 (recipe 9 9 ∷ recipe 6 9 ∷ [])
+    ∷ [])
+
 weekP : List Recipe → Week
 weekP rs = week 0 3 (batch 1 0 3 rs ∷ [])
 
@@ -105,7 +114,7 @@ outcomes w choice (suc i) = outcomes w choice i ++ outcomeNumbers (weekOutcome w
 abbrev run : Week → List ℕ → List ℕ
 run w choice = changes (weekLog w choice) ∷ idle (weekLog w choice) ∷ outcomes w choice (w .count)
 
--- the first w entries of the last batch's row of the picks table
+-- the first m entries of the last batch's row of the picks table
 abbrev picks : Week → ℕ → List ℕ
 picks w zero = []
 picks w (suc m) = picks w m ++ (pick (weekJobs w) (w .opening + m) ∷ [])
@@ -155,7 +164,14 @@ table =
     ∷ (run (weekG (recipe 11 1 ∷ recipe 0 0 ∷ [])) (2 ∷ []) is (0 ∷ 10 ∷ 0 ∷ 0 ∷ []))
     ∷ (run weekGap (1 ∷ 1 ∷ []) is (2 ∷ 3 ∷ 1 ∷ 2 ∷ 1 ∷ 5 ∷ []))
     ∷ ((changes (1 ∷ 0 ∷ 1 ∷ 1 ∷ 0 ∷ []) ∷ []) is (2 ∷ []))
-    -- and the picks table's rows
+    -- a set-aside batch asks nothing, though it arrives after the bound
+    ∷ (bestPlan weekAside is (10 ∷ 1 ∷ 2 ∷ 2 ∷ []))
+    ∷ (check weekAside (1 ∷ 2 ∷ 2 ∷ []) is (0 ∷ 0 ∷ 0 ∷ 10 ∷ 2 ∷ 4 ∷ 4 ∷ 4 ∷ 4 ∷ 10 ∷ []))
+    -- no choice is not a total of 0: H and I
+    ∷ ((score (weekJobs (weekG (recipe 11 1 ∷ []))) 10 ∷ []) is (0 ∷ []))
+    ∷ ((score (weekJobs (weekG (recipe 11 1 ∷ recipe 0 0 ∷ []))) 10 ∷ []) is (1 ∷ []))
+    -- and rows of the picks table
+    ∷ (picks weekAside 11 is (0 ∷ 0 ∷ 0 ∷ 0 ∷ 0 ∷ 0 ∷ 0 ∷ 0 ∷ 2 ∷ 2 ∷ 2 ∷ []))
     ∷ (picks (weekP (recipe 2 3 ∷ recipe 1 3 ∷ [])) 4 is (0 ∷ 2 ∷ 1 ∷ 1 ∷ []))
     ∷ (picks (weekP (recipe 2 0 ∷ recipe 0 0 ∷ [])) 4 is (2 ∷ 2 ∷ 1 ∷ 1 ∷ []))
     ∷ (picks weekJ 11 is (0 ∷ 0 ∷ 0 ∷ 0 ∷ 0 ∷ 0 ∷ 0 ∷ 0 ∷ 0 ∷ 0 ∷ 0 ∷ []))
@@ -173,7 +189,7 @@ agree (e ∷ es) = same (e .said) (e .written) && agree es
 
 examples : agree table ≡ true
 unfolding
-    table same agree weekW weekE weekG weekJ weekK weekLate weekGap weekP stretchOf fits nextBound best
+    table same agree weekW weekE weekG weekJ weekK weekLate weekGap weekAside weekP stretchOf fits nextBound best
     entries minutesLeft firstOpen logOf idle changesAfter changes upToLast outcomeOf outcomeNumbers weekLog weekOutcome
     before refusedIf orElse firstOf first weekFault costFault worthFault repeatFault orderFault batchFault listFault nameFault choiceFault
     ruleFault checkFault passed refusedCheck checkAnswer
