@@ -60,13 +60,19 @@ pub fn pair(opening: u16, closing: u16, a: Batch, b: Batch) -> Week {
     add(add(Week::empty(opening, closing), a), b)
 }
 
-// 10 recipes, of costs 10 down to 1.
-pub fn ten() -> Batch {
-    let mut b = batch(1, 0, 10);
-    for i in 0..10u16 {
-        b = recipe(b, 10 - i, 1);
+// b with 10 recipes: costs falling by `step` to `step`, worths falling from 10 to 1.
+pub fn falling(b: Batch, step: u16) -> Batch {
+    let mut ten = b;
+    let mut cost: u32 = 0;
+    for worth in 1..11u16 {
+        cost += step as u32;
+        ten.recipes[Batch::MAX_RECIPES - (worth as usize)] = Recipe {
+            cost: (cost % 65536) as u16,
+            worth,
+        };
     }
-    b
+    ten.count = Batch::MAX_RECIPES;
+    ten
 }
 
 // 16 batches with one recipe of one minute, due at 51 to 66.

@@ -2,12 +2,12 @@
 use crate::build::add;
 use crate::build::alone;
 use crate::build::batch;
+use crate::build::falling;
 use crate::build::one;
 use crate::build::pair;
 use crate::build::plain;
 use crate::build::recipe;
 use crate::build::sixteen;
-use crate::build::ten;
 use crate::show::show;
 use week::record::Week;
 
@@ -28,8 +28,9 @@ pub fn weeks() {
 // 4 to 6.
 pub fn minutes() {
     show(b"no recipe", alone(batch(1, 0, 10)), b"\x01");
-    show(b"10 recipes", alone(ten()), b"\x0A");
-    show(b"11 recipes", alone(recipe(ten(), 1, 1)), b"\x0B");
+    let ten = falling(batch(1, 0, 10), 1);
+    show(b"10 recipes", alone(ten), b"\x0A");
+    show(b"11 recipes", alone(recipe(ten, 1, 1)), b"\x0B");
     show(b"due as it arrives", alone(one(1, 3, 3, 1, 1)), b"\x01");
     show(
         b"arrives at the close",

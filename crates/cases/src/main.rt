@@ -1,8 +1,9 @@
-// Check on lists and choices at the edge of each refusal. What each line must be is worked out from document 01 and its
-// readings, and stands in stdout.
+// Check and Choose on lists, choices and tables at the edge of each refusal, and document 01's fixed examples. What each line
+// must be is worked out from document 01 and its readings, and stands in stdout.
 mod build;
 mod choices;
 mod lists;
+mod plans;
 mod show;
 
 fn main() {
@@ -12,4 +13,8 @@ fn main() {
     lists::numbers();
     choices::names();
     choices::rule();
+    plans::examples();
+    plans::sizes();
+    plans::ties();
+    plans::tables();
 }

@@ -2,7 +2,7 @@
 use Prim.Native.Nat.{ℕ, _+_, _≤_, _<_}
 use native.Mathlib.Decide.{ℕ-discrete}
 use native.Mathlib.Omega.{arith}
-use mathlib.Core.Path.{_≡_, sym, subst, _∙_}
+use mathlib.Core.Path.{_≡_, sym, _∙_}
 use mathlib.Core.List.{List}
 use lib.ListN.{length, getD, set, length-set}
 use lib.Seq.{getD-set-same, getD-set-other, ext-getD}
@@ -10,6 +10,15 @@ use Rattle.jobs.specs.Model.{tabulate}
 use Rattle.jobs.proofs.Places.{length-tabulate, tabulate-at}
 
 module _ {A : Type 0} where
+  -- what holds of the entry that is stored at i, and of every other, holds of each
+  pub set-each : (d : A) (array : List A) (i : ℕ) (a : A) → i < length array → (P : ℕ → A → Type 0) → P i a →
+      ((k : ℕ) → (k ≡ i → ⊥) → P k (getD array k d)) → (k : ℕ) → P k (getD (set array i a) k d)
+  set-each d array i a low P here others k =
+      elim (ℕ-discrete k i) [
+        | yes e ↦ rw (e, getD-set-same array i a d low) here
+        | no n ↦ rw (getD-set-other array i k a d n) (others k n)
+      ]
+
   -- the array has the entries of `to` at the indices P
   pub record Filled (d : A) (to : List A) (P : ℕ → Type 0) (array : List A) : Type 0 where
     pub size : length array ≡ length to
@@ -21,12 +30,9 @@ module _ {A : Type 0} where
   filled-step d to P Q i array a low same others h =
       record {
         size = length-set array i a ∙ h .size;
-        done = λ k q.
-            elim (ℕ-discrete k i) [
-              | yes e ↦ subst (λ (l : ℕ). getD (set array i a) l d ≡ getD to l d) (sym e)
-                  (getD-set-same array i a d (omega (arith, h .size)) ∙ same)
-              | no n ↦ getD-set-other array i k a d n ∙ h .done k (others k q n)
-            ];
+        done =
+            set-each d array i a (omega (arith, h .size)) (λ k x. Q k → x ≡ getD to k d) (λ q. same)
+            (λ k n q. h .done k (others k q n));
       }
 
   pub filled-all : (d : A) (to : List A) (P : ℕ → Type 0) (array : List A) → ((k : ℕ) → k < length to → P k) →

@@ -2,9 +2,13 @@ pub mod Places
 pub mod Fills
 pub mod Rules
 pub mod Named
+pub mod Arrays
 pub mod Pass
 pub mod Sums
 pub mod FirstBest
+pub mod Cases
 pub mod Programme
+pub mod Parts
+pub mod Late
 pub mod FirstChoice
 pub mod Demand

@@ -83,7 +83,7 @@ module _
       pass-fails unfit =
           rw last (sym (stretched-fails _ _ _ at ((rw (← named, unfit) at (here .fails)) ∙ ap suc (length-backward noJob jobs at))))
 
-    -- no job is nextBound: the rule's answer is the array
+    -- no job is left: the rule's answer is the array
     pub pass-end : i ≡ 0 →
         record { failing = 0; stretches = array } ≡ stretched (backward noJob jobs n) close (backward 0 choice n)
     pass-end first =

@@ -1,16 +1,20 @@
 -- Lists that stand last first, the arrays that hold them in list order, and arrays by a function: laws over any elements.
 use Prim.Native.Nat.{ℕ, zero, suc, _+_, _-_, _≤_, _<_}
 use native.Mathlib.Omega.{arith}
-use mathlib.Core.Path.{_≡_, refl, ap, ap₂, _∙_}
+use mathlib.Core.Path.{_≡_, refl, ap, ap₂, subst, _∙_}
 use mathlib.Core.List.{List, [], _∷_, _++_, append-assoc}
-use lib.ListN.{length, getD, replicate, length-append, length-replicate}
-use lib.Seq.{getD-at, getD-append-add}
+use lib.ListN.{length, getD, take, drop, replicate, length-append, length-replicate, replicate-append-replicate}
+use lib.Seq.{getD-at, getD-append-add, getD-take, drop-at}
 use Rattle.jobs.specs.Model.{backward, forward, tabulate, placed}
 
 module _ {A : Type 0} where
   pub length-backward : (d : A) (xs : List A) (i : ℕ) → length (backward d xs i) ≡ i
   length-backward d xs zero = refl
   length-backward d xs (suc i) = ap suc (length-backward d xs i)
+
+  pub backward-take : (d : A) (xs : List A) (n i : ℕ) → i ≤ n → backward d (take n xs) i ≡ backward d xs i
+  backward-take d xs n zero h = refl
+  backward-take d xs n (suc i) h = ap₂ _∷_ (getD-take n xs i d h) (backward-take d xs n i (omega arith))
 
   length-forward : (xs : List A) → length (forward xs) ≡ length xs
   length-forward [] = refl
@@ -23,6 +27,12 @@ module _ {A : Type 0} where
   replicate-at zero d i = refl
   replicate-at (suc n) d zero = refl
   replicate-at (suc n) d (suc i) = replicate-at n d i
+
+  pub drop-replicate : (n m : ℕ) (d : A) → n ≤ m → drop n (replicate m d) ≡ replicate (m - n) d
+  drop-replicate n m d h =
+      let e : n + (m - n) ≡ m = omega arith in
+      subst (λ (k : ℕ). drop n (replicate k d) ≡ replicate (m - n) d) e
+      (rw (← replicate-append-replicate n (m - n) d) (drop-at (replicate n d) (replicate (m - n) d) n (length-replicate n d)))
 
   -- the entries past the list are d
   pub placed-beyond : (m : ℕ) (d : A) (xs : List A) (i : ℕ) → length xs ≤ i → getD (placed m d xs) i d ≡ d
@@ -44,7 +54,7 @@ module _ {A : Type 0} where
   length-tabulate f a zero = refl
   length-tabulate f a (suc m) = ap suc (length-tabulate f (suc a) m)
 
-  tabulate-from : (f : ℕ → A) (a m i : ℕ) (d : A) → i < m → getD (tabulate f a m) i d ≡ f (a + i)
+  pub tabulate-from : (f : ℕ → A) (a m i : ℕ) (d : A) → i < m → getD (tabulate f a m) i d ≡ f (a + i)
   tabulate-from f a zero i d l = absurd (omega arith)
   tabulate-from f a (suc m) zero d l = let e : a ≡ a + 0 = omega arith in ap f e
   tabulate-from f a (suc m) (suc i) d l =

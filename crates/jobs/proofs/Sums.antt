@@ -7,21 +7,21 @@ use mathlib.Core.List.{List}
 use lib.ListN.{getD}
 use Rattle.jobs.specs.declared.model.Version.{Version}
 use Rattle.jobs.specs.declared.model.Job.{Job}
-use Rattle.jobs.specs.Model.{noJob, versionOf, backward}
+use Rattle.jobs.specs.Model.{max32, noJob, versionOf, backward}
 use Rattle.jobs.specs.Choice.{total}
 
 -- after the first i of n jobs
 pub record Sum (jobs : List Job) (choice : List ℕ) (n sum i : ℕ) : Type 0 where
   pub low : i ≤ n
   pub exact : sum ≡ total (backward noJob jobs i) (backward 0 choice i)
-  pub small : sum ≤ i * 4294967295
+  pub small : sum ≤ i * max32
 
 pub sum-start : (jobs : List Job) (choice : List ℕ) (n : ℕ) → Sum jobs choice n 0 0
 sum-start jobs choice n = record { low = omega arith; exact = refl; small = omega arith }
 
 module _ {jobs : List Job} {choice : List ℕ} {n sum i : ℕ} (h : Sum jobs choice n sum i) where
   -- one job: v is the version that the choice names
-  pub sum-step : i < n → {v : Version} → v ≡ versionOf (getD jobs i noJob) (getD choice i 0) → v .worth < 4294967296 →
+  pub sum-step : i < n → {v : Version} → v ≡ versionOf (getD jobs i noJob) (getD choice i 0) → v .worth ≤ max32 →
       Sum jobs choice n (sum + v .worth) (i + 1)
   sum-step more {v} named fits =
       record {

@@ -9,7 +9,7 @@ use Rattle.jobs.specs.declared.model.Job.{Job}
 use Rattle.jobs.specs.declared.model.JobList.{JobList}
 use Rattle.jobs.specs.declared.rule.Stretch.{Stretch}
 use Rattle.jobs.specs.declared.rule.Stretched.{Stretched}
-use Rattle.jobs.specs.Model.{maxJobs, maxVersions, noJob, placed, jobsOf, chosen}
+use Rattle.jobs.specs.Model.{maxJobs, maxVersions, max32, noJob, placed, jobsOf, chosen}
 use Rattle.jobs.specs.Rule.{failing, stretches}
 use Rattle.jobs.specs.Choice.{total}
 
@@ -24,7 +24,7 @@ pub record Names (list : JobList) (choice : List ℕ) : Type 0 where
 -- and whose total 32 bits hold
 pub record Answerable (list : JobList) (choice : List ℕ) : Type 0 where
   pub names : Names list choice
-  pub small : total (jobsOf list) (chosen list choice) < 4294967296
+  pub small : total (jobsOf list) (chosen list choice) ≤ max32
 
 abbrev pub noStretch : Stretch
 noStretch = record { start = 0; end = 0 }

@@ -11,8 +11,15 @@ use Rattle.jobs.specs.declared.model.JobList.{JobList}
 abbrev pub maxJobs : ℕ
 maxJobs = 16
 
+abbrev pub maxSpan : ℕ
+maxSpan = 2400
+
 abbrev pub maxVersions : ℕ
 maxVersions = 10
+
+-- the greatest number of 32 bits: of a worth, and of a total that is answered
+abbrev pub max32 : ℕ
+max32 = 4294967295
 
 -- what stands past the end of an array
 abbrev pub noVersion : Version

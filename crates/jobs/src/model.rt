@@ -24,7 +24,7 @@ impl Job {
     pub const MAX_VERSIONS: usize = 10;
 
     // Version k of this job, counted from 1.
-    pub(crate) fn version(self, k: u8) -> Version
+    pub fn version(self, k: u8) -> Version
         requires { ⌜ (1 ≤ k) × (k ≤ maxVersions) ⌝ }
         ensures { λ r. ⌜ r ≡ versionOf self k ⌝ }
     {
@@ -41,4 +41,7 @@ pub struct JobList {
 
 impl JobList {
     pub const MAX_JOBS: usize = 16;
+
+    // The week's limit, in minutes from the opening to the close. The rows of the dynamic programme have an entry for each.
+    pub const MAX_SPAN: u16 = 2400;
 }

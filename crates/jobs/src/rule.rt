@@ -40,7 +40,7 @@ impl Job {
     }
 
     // The stretch of version v of this job under a bound.
-    fn stretch(self, v: Version, bound: u16) -> Stretch
+    pub fn stretch(self, v: Version, bound: u16) -> Stretch
         requires { ⌜ fitsOf self v bound ≡ true ⌝ }
         ensures { λ r. ⌜ r ≡ stretchOf self v bound ⌝ }
     {

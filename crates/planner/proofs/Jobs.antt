@@ -1,64 +1,87 @@
--- A choice that is not refused names a version of each job of its week, and its total fits 32 bits.
-use Prim.Native.Nat.{ℕ, zero, suc, _-_, _≤_, _<_}
+-- The jobs of a week's list that is not refused: choices of them, and the table that has a row for each.
+use Prim.Native.Nat.{ℕ, zero, suc, _-_, _*_, _≤_, _<_}
 use native.Mathlib.Omega.{arith}
 use mathlib.Core.Path.{_≡_, ap}
 use mathlib.Core.List.{List}
-use lib.ListN.{getD}
+use lib.ListN.{getD, take}
 use Rattle.jobs.specs.declared.model.Version.{Version}
 use Rattle.jobs.specs.declared.model.Job.{Job}
-use Rattle.jobs.specs.Model.{noVersion, noJob, versionOf}
+use Rattle.jobs.specs.Model.{maxVersions, noVersion, noJob, versionOf, placed}
+use Rattle.jobs.specs.Choice.{Valid}
 use Rattle.jobs.specs.Contract.{Names, Answerable}
+use Rattle.jobs.proofs.Arrays.{valid-names}
+use Rattle.jobs.proofs.Named.{named-version}
 use Rattle.jobs.proofs.Places.{tabulate-at}
 use Rattle.jobs.proofs.Sums.{sum-small}
+use Rattle.select.specs.Table.{Tabled}
 use Rattle.week.specs.declared.record.Batch.{Batch}
 use Rattle.week.specs.declared.record.Week.{Week}
 use Rattle.week.specs.Record.{maxBatches, maxRecipes, batchAt, recipeAt}
 use Rattle.week.proofs.Sound.{Sound, Named}
-use Rattle.planner.specs.Job.{versionFrom, jobFrom, jobListOf}
+use Rattle.planner.specs.Job.{versionFrom, jobFrom, jobListOf, weekJobs}
+use Rattle.planner.specs.Choose.{widthOf}
 
-version-at : (t : ℕ) (b : Batch) (k : ℕ) → 1 ≤ k → k ≤ maxRecipes → versionOf (jobFrom t b) k ≡ versionFrom b (k - 1)
+pub version-at : (t : ℕ) (b : Batch) (k : ℕ) → 1 ≤ k → k ≤ maxRecipes → versionOf (jobFrom t b) k ≡ versionFrom b (k - 1)
 version-at t b zero low high = absurd (omega arith)
 version-at t b (suc k) low high =
     let e : suc k - 1 ≡ k = omega arith in
     rw e (tabulate-at (versionFrom b) maxRecipes k noVersion (omega arith))
 
-module _
-    (w : Week) (choice : List ℕ) (sound : Sound w) (named : Named w choice)
-    (fit : (i k : ℕ) → i < maxBatches → k < maxRecipes → recipeAt (batchAt w i) k .worth < 65536)
-  where
-    job-at : (i : ℕ) → i < w .count → getD (jobListOf w .jobs) i noJob ≡ jobFrom (w .opening) (batchAt w i)
-    job-at i l = tabulate-at (λ i. jobFrom (w .opening) (batchAt w i)) maxBatches i noJob (omega (arith, sound .most))
+module _ (w : Week) (sound : Sound w) where
+  pub job-at : (i : ℕ) → i < w .count → getD (jobListOf w .jobs) i noJob ≡ jobFrom (w .opening) (batchAt w i)
+  job-at i l = tabulate-at (λ i. jobFrom (w .opening) (batchAt w i)) maxBatches i noJob (omega (arith, sound .most))
 
-    count-at : (i : ℕ) → i < w .count → getD (jobListOf w .jobs) i noJob .count ≡ batchAt w i .count
-    count-at i l = ap (λ (j : Job). j .count) (job-at i l)
+  count-at : (i : ℕ) → i < w .count → getD (jobListOf w .jobs) i noJob .count ≡ batchAt w i .count
+  count-at i l = ap (λ (j : Job). j .count) (job-at i l)
 
-    names : Names (jobListOf w) choice
-    names =
-        record {
-          most = sound .most;
-          whole = named .whole;
-          low = named .low;
-          high = λ i l. omega (arith, count-at i l, named .high i l);
-          few = λ i l. omega (arith, count-at i l, sound .few i l);
-        }
+  few-versions : (i : ℕ) → i < w .count → getD (jobListOf w .jobs) i noJob .count ≤ maxVersions
+  few-versions i l = omega (arith, count-at i l, sound .few i l)
 
-    worth-at : (i : ℕ) → i < w .count → versionOf (getD (jobListOf w .jobs) i noJob) (getD choice i 0) .worth ≤ 65535
-    worth-at i l =
-        let k = getD choice i 0 in
-        let low = named .low i l in
-        let high = named .high i l in
-        let few = sound .few i l in
-        let at = version-at (w .opening) (batchAt w i) k low (omega arith) in
-        omega (
-          arith,
-          ap (λ (j : Job). versionOf j k .worth) (job-at i l),
-          ap (λ (v : Version). v .worth) at,
-          fit i (k - 1) (omega (arith, sound .most)) (omega arith),
-        )
+  -- a choice that is handed in names a version of each job
+  pub handed-names : {choice : List ℕ} → Named w choice → Names (jobListOf w) choice
+  handed-names named =
+      record {
+        most = sound .most;
+        whole = named .whole;
+        low = named .low;
+        high = λ i l. omega (arith, count-at i l, named .high i l);
+        few = few-versions;
+      }
 
-    pub answerable : Answerable (jobListOf w) choice
-    answerable =
-        record {
-          names = names;
-          small = omega (arith, sum-small (jobListOf w .jobs) choice 65535 (w .count) worth-at, sound .most);
-        }
+  -- and so does a choice of the jobs, in list order
+  pub plan-names : (ks : List ℕ) → Valid (weekJobs w) ks → Names (jobListOf w) (take (w .count) (placed maxBatches 0 ks))
+  plan-names ks valid = valid-names (jobListOf w) ks valid (sound .most) few-versions
+
+  -- its total fits 32 bits, each worth being one of 16
+  module _
+      (fit : (i k : ℕ) → i < maxBatches → k < maxRecipes → recipeAt (batchAt w i) k .worth < 65536)
+      {choice : List ℕ} (names : Names (jobListOf w) choice)
+    where
+      worth-at : (i : ℕ) → i < w .count → versionOf (getD (jobListOf w .jobs) i noJob) (getD choice i 0) .worth ≤ 65535
+      worth-at i l =
+          let k = getD choice i 0 in
+          let named = named-version names i l in
+          omega (
+            arith,
+            ap (λ (j : Job). versionOf j k .worth) (job-at i l),
+            ap (λ (v : Version). v .worth) (version-at (w .opening) (batchAt w i) k (named .0) (named .1)),
+            fit i (k - 1) (omega (arith, sound .most)) (omega arith),
+          )
+
+      pub answerable : Answerable (jobListOf w) choice
+      answerable =
+          record {
+            names = names;
+            small = omega (arith, sum-small (jobListOf w .jobs) choice 65535 (w .count) worth-at, sound .most);
+          }
+
+  -- a table that is long enough has a row for each job
+  pub tabled : (size : ℕ) → w .count * widthOf w ≤ size → Tabled (jobListOf w) (w .opening) (widthOf w) size
+  tabled size long =
+      record {
+        most = sound .most;
+        few = few-versions;
+        ready = λ i l. omega (arith, ap (λ (j : Job). j .ready) (job-at i l));
+        wide = omega (arith, sound .short);
+        long = long;
+      }

@@ -1,17 +1,15 @@
 -- Document 01, "Fixed examples", A to L, computed from the definitions: one table, one claim.
 use Prim.Native.Nat.{ℕ, zero, suc, _+_, _*_, _-_}
 use mathlib.Core.Path.{_≡_, refl}
-use mathlib.Core.Bool.{Bool, true, false, _&&_}
+use mathlib.Core.Bool.{Bool, true, false, cond, _&&_}
 use mathlib.Core.List.{List, [], _∷_, _++_}
-use mathlib.Core.Option.{Option, none, some}
 use lib.ListN.{length, take, replicate}
 use lib.Dec.{eqb}
 use Rattle.jobs.specs.declared.rule.Stretch.{Stretch}
-use Rattle.jobs.specs.Model.{forward}
 use Rattle.jobs.specs.Rule.{stretchOf, fits, nextBound}
-use Rattle.jobs.specs.Choice.{total}
-use Rattle.jobs.specs.Best.{best, pick, score}
+use Rattle.jobs.specs.Best.{best, score}
 use Rattle.edf.specs.Run.{entries, minutesLeft, firstOpen, logOf, idle, changesAfter, changes, upToLast, outcomeOf, outcomeNumbers}
+use Rattle.select.specs.Table.{filled}
 use Rattle.week.specs.declared.record.Recipe.{Recipe}
 use Rattle.week.specs.declared.record.Batch.{Batch}
 use Rattle.week.specs.declared.record.Week.{Week}
@@ -19,8 +17,10 @@ use Rattle.week.specs.Record.{maxBatches, maxRecipes, noRecipe, emptyBatch, bef
 use Rattle.week.specs.Refusal.{refusedIf, orElse, firstOf, first}
 use Rattle.week.specs.Fault.{weekFault, costFault, worthFault, repeatFault, orderFault, batchFault, listFault, nameFault, choiceFault}
 use Rattle.planner.specs.declared.check.Checked.{Checked}
+use Rattle.planner.specs.declared.choose.Plan.{Plan}
 use Rattle.planner.specs.Job.{weekJobs}
 use Rattle.planner.specs.Check.{ruleFault, checkFault, passed, refusedCheck, checkAnswer}
+use Rattle.planner.specs.Choose.{widthOf, tableFault, fillFault, refusedPlan, planOf, chooseAnswer, tableAfter}
 use Rattle.planner.specs.Run.{weekLog, weekOutcome}
 
 -- The lists.
@@ -86,13 +86,14 @@ weekP : List Recipe → Week
 weekP rs = week 0 3 (batch 1 0 3 rs ∷ [])
 
 -- The answers as numbers.
--- the total of the best choice and its recipes in list order; 14 if there is none
-abbrev planNumbers : Week → Option (List ℕ) → List ℕ
-planNumbers w none = 14 ∷ []
-planNumbers w (some ks) = total (weekJobs w) ks ∷ forward ks
+-- Choose's refusal, total and recipes, in list order; of a refusal its number alone
+abbrev planNumbers : ℕ → Plan → List ℕ
+planNumbers n p =
+    cond (eqb (p .refusal .number) 0) (p .refusal .number ∷ p .total ∷ take n (p .choice)) (p .refusal .number ∷ [])
 
+-- with a table that is just long enough
 abbrev bestPlan : Week → List ℕ
-bestPlan w = planNumbers w (best (weekJobs w) (w .closing))
+bestPlan w = planNumbers (w .count) (chooseAnswer w (w .count * widthOf w))
 
 abbrev stretchNumbers : List Stretch → List ℕ
 stretchNumbers [] = []
@@ -110,14 +111,13 @@ abbrev outcomes : Week → List ℕ → ℕ → List ℕ
 outcomes w choice zero = []
 outcomes w choice (suc i) = outcomes w choice i ++ outcomeNumbers (weekOutcome w choice i)
 
--- the run's changes and idle minutes, and each batch's outcome: 0 0 set aside, 1 and the minute finished, 2 and the minutes nextBound
+-- the run's changes and idle minutes, and each batch's outcome: 0 0 set aside, 1 and the minute finished, 2 and the minutes left
 abbrev run : Week → List ℕ → List ℕ
 run w choice = changes (weekLog w choice) ∷ idle (weekLog w choice) ∷ outcomes w choice (w .count)
 
--- the first m entries of the last batch's row of the picks table
-abbrev picks : Week → ℕ → List ℕ
-picks w zero = []
-picks w (suc m) = picks w m ++ (pick (weekJobs w) (w .opening + m) ∷ [])
+-- the picks table after Choose: it was 255 everywhere, and has one byte more than the rows
+abbrev picks : Week → List ℕ
+picks w = tableAfter w (replicate (w .count * widthOf w + 1) 255)
 
 -- What the definitions say, and what document 01 says.
 record Example : Type 0 where
@@ -131,7 +131,7 @@ a is b = record { said = a; written = b }
 table : List Example
 table =
     -- A, with the stretches that case W prints
-    (bestPlan weekW is (22 ∷ 2 ∷ 1 ∷ 1 ∷ []))
+    (bestPlan weekW is (0 ∷ 22 ∷ 2 ∷ 1 ∷ 1 ∷ []))
     ∷ (check weekW (2 ∷ 1 ∷ 1 ∷ []) is (0 ∷ 0 ∷ 0 ∷ 22 ∷ 10 ∷ 20 ∷ 20 ∷ 50 ∷ 50 ∷ 100 ∷ []))
     -- B
     ∷ (check weekW (1 ∷ 1 ∷ 2 ∷ []) is (0 ∷ 0 ∷ 0 ∷ 22 ∷ 0 ∷ 30 ∷ 30 ∷ 60 ∷ 80 ∷ 100 ∷ []))
@@ -140,41 +140,49 @@ table =
     -- D
     ∷ (run weekW (2 ∷ 1 ∷ 1 ∷ []) is (4 ∷ 10 ∷ 1 ∷ 10 ∷ 1 ∷ 50 ∷ 1 ∷ 90 ∷ []))
     -- E: the bound for batch 1 is the start of batch 2's stretch, 100
-    ∷ (bestPlan (weekE 2340) is (23 ∷ 8 ∷ 1 ∷ 1 ∷ []))
+    ∷ (bestPlan (weekE 2340) is (0 ∷ 23 ∷ 8 ∷ 1 ∷ 1 ∷ []))
     ∷ (check (weekE 2340) (8 ∷ 1 ∷ 1 ∷ []) is (0 ∷ 0 ∷ 0 ∷ 23 ∷ 7 ∷ 100 ∷ 100 ∷ 1010 ∷ 2120 ∷ 2340 ∷ []))
     -- F, and the choice that ties and loses
-    ∷ (bestPlan (weekE 1000) is (13 ∷ 10 ∷ 1 ∷ 9 ∷ []))
+    ∷ (bestPlan (weekE 1000) is (0 ∷ 13 ∷ 10 ∷ 1 ∷ 9 ∷ []))
     ∷ (check (weekE 1000) (9 ∷ 1 ∷ 10 ∷ []) is (0 ∷ 0 ∷ 0 ∷ 13 ∷ 6 ∷ 68 ∷ 68 ∷ 978 ∷ 978 ∷ 1000 ∷ []))
     -- G, H, I
-    ∷ (bestPlan (weekG (recipe 10 1 ∷ [])) is (1 ∷ 1 ∷ []))
+    ∷ (bestPlan (weekG (recipe 10 1 ∷ [])) is (0 ∷ 1 ∷ 1 ∷ []))
     ∷ (bestPlan (weekG (recipe 11 1 ∷ [])) is (14 ∷ []))
-    ∷ (bestPlan (weekG (recipe 11 1 ∷ recipe 0 0 ∷ [])) is (0 ∷ 2 ∷ []))
+    ∷ (bestPlan (weekG (recipe 11 1 ∷ recipe 0 0 ∷ [])) is (0 ∷ 0 ∷ 2 ∷ []))
     -- J: no plan, yet the run finishes at 9 and 5
     ∷ (bestPlan weekJ is (14 ∷ []))
     ∷ (run weekJ (1 ∷ 1 ∷ []) is (2 ∷ 1 ∷ 1 ∷ 9 ∷ 1 ∷ 5 ∷ []))
     -- K
-    ∷ (bestPlan (weekK 21) is (1 ∷ 1 ∷ []))
+    ∷ (bestPlan (weekK 21) is (0 ∷ 1 ∷ 1 ∷ []))
     ∷ (check (weekK 21) (1 ∷ []) is (0 ∷ 0 ∷ 0 ∷ 1 ∷ 20 ∷ 21 ∷ []))
     ∷ (bestPlan (weekK 20) is (14 ∷ []))
     -- L
-    ∷ (bestPlan (week 0 10 []) is (0 ∷ []))
-    -- What A to L leave open, worked out from 01's text: a late batch goes on, and the one behind it is nextBound with 2 minutes; a
+    ∷ (bestPlan (week 0 10 []) is (0 ∷ 0 ∷ []))
+    -- What A to L leave open, worked out from 01's text: a late batch goes on, and the one behind it is left with 2 minutes; a
     -- batch that is set aside; idle minutes between two batches and after them; and an entry that follows an idle minute
     ∷ (run weekLate (1 ∷ 1 ∷ []) is (2 ∷ 0 ∷ 1 ∷ 3 ∷ 2 ∷ 2 ∷ []))
     ∷ (run (weekG (recipe 11 1 ∷ recipe 0 0 ∷ [])) (2 ∷ []) is (0 ∷ 10 ∷ 0 ∷ 0 ∷ []))
     ∷ (run weekGap (1 ∷ 1 ∷ []) is (2 ∷ 3 ∷ 1 ∷ 2 ∷ 1 ∷ 5 ∷ []))
     ∷ ((changes (1 ∷ 0 ∷ 1 ∷ 1 ∷ 0 ∷ []) ∷ []) is (2 ∷ []))
     -- a set-aside batch asks nothing, though it arrives after the bound
-    ∷ (bestPlan weekAside is (10 ∷ 1 ∷ 2 ∷ 2 ∷ []))
+    ∷ (bestPlan weekAside is (0 ∷ 10 ∷ 1 ∷ 2 ∷ 2 ∷ []))
     ∷ (check weekAside (1 ∷ 2 ∷ 2 ∷ []) is (0 ∷ 0 ∷ 0 ∷ 10 ∷ 2 ∷ 4 ∷ 4 ∷ 4 ∷ 4 ∷ 10 ∷ []))
     -- no choice is not a total of 0: H and I
     ∷ ((score (weekJobs (weekG (recipe 11 1 ∷ []))) 10 ∷ []) is (0 ∷ []))
     ∷ ((score (weekJobs (weekG (recipe 11 1 ∷ recipe 0 0 ∷ []))) 10 ∷ []) is (1 ∷ []))
-    -- and rows of the picks table
-    ∷ (picks weekAside 11 is (0 ∷ 0 ∷ 0 ∷ 0 ∷ 0 ∷ 0 ∷ 0 ∷ 0 ∷ 2 ∷ 2 ∷ 2 ∷ []))
-    ∷ (picks (weekP (recipe 2 3 ∷ recipe 1 3 ∷ [])) 4 is (0 ∷ 2 ∷ 1 ∷ 1 ∷ []))
-    ∷ (picks (weekP (recipe 2 0 ∷ recipe 0 0 ∷ [])) 4 is (2 ∷ 2 ∷ 1 ∷ 1 ∷ []))
-    ∷ (picks weekJ 11 is (0 ∷ 0 ∷ 0 ∷ 0 ∷ 0 ∷ 0 ∷ 0 ∷ 0 ∷ 0 ∷ 0 ∷ 0 ∷ []))
+    -- and the picks table: of a plan, of a tie, of a reading worth nothing, of 14, and of a list that is refused
+    ∷ (picks weekAside
+    is (0 ∷ 0 ∷ 1 ∷ 1 ∷ 1 ∷ 1 ∷ 1 ∷ 1 ∷ 1 ∷ 1 ∷ 1
+    ∷ 0 ∷ 0 ∷ 2 ∷ 2 ∷ 2 ∷ 2 ∷ 2 ∷ 2 ∷ 2 ∷ 1 ∷ 1
+    ∷ 0 ∷ 0 ∷ 0 ∷ 0 ∷ 0 ∷ 0 ∷ 0 ∷ 0 ∷ 2 ∷ 2 ∷ 2
+    ∷ 255 ∷ []))
+    ∷ (picks (weekP (recipe 2 3 ∷ recipe 1 3 ∷ [])) is (0 ∷ 2 ∷ 1 ∷ 1 ∷ 255 ∷ []))
+    ∷ (picks (weekP (recipe 2 0 ∷ recipe 0 0 ∷ [])) is (2 ∷ 2 ∷ 1 ∷ 1 ∷ 255 ∷ []))
+    ∷ (picks weekJ
+    is (0 ∷ 0 ∷ 0 ∷ 0 ∷ 0 ∷ 0 ∷ 0 ∷ 0 ∷ 0 ∷ 1 ∷ 1
+    ∷ 0 ∷ 0 ∷ 0 ∷ 0 ∷ 0 ∷ 0 ∷ 0 ∷ 0 ∷ 0 ∷ 0 ∷ 0
+    ∷ 255 ∷ []))
+    ∷ (picks (weekP (recipe 1 1 ∷ recipe 2 1 ∷ [])) is (255 ∷ 255 ∷ 255 ∷ 255 ∷ 255 ∷ []))
     ∷ []
 
 same : List ℕ → List ℕ → Bool
@@ -192,5 +200,5 @@ unfolding
     table same agree weekW weekE weekG weekJ weekK weekLate weekGap weekAside weekP stretchOf fits nextBound best
     entries minutesLeft firstOpen logOf idle changesAfter changes upToLast outcomeOf outcomeNumbers weekLog weekOutcome
     before refusedIf orElse firstOf first weekFault costFault worthFault repeatFault orderFault batchFault listFault nameFault choiceFault
-    ruleFault checkFault passed refusedCheck checkAnswer
+    ruleFault checkFault passed refusedCheck checkAnswer tableFault fillFault refusedPlan planOf chooseAnswer filled tableAfter
 examples = refl

@@ -1,3 +1,4 @@
 // The week planner's operations over a week's list.
 pub mod check;
+pub mod choose;
 pub mod job;

@@ -1,3 +1,4 @@
 pub mod First
 pub mod Owned
 pub mod Sound
+pub mod Numbers

@@ -4,14 +4,14 @@ use mathlib.Core.Bool.{Bool, cond}
 use mathlib.Core.List.{[]}
 use lib.ListN.{getD, replicate}
 use lib.Dec.{ltb, eqb}
-use Rattle.jobs.specs.Model.{maxJobs, maxVersions}
+use Rattle.jobs.specs.Model.{maxJobs, maxSpan, maxVersions}
 use Rattle.week.specs.declared.record.Recipe.{Recipe}
 use Rattle.week.specs.declared.record.Batch.{Batch}
 use Rattle.week.specs.declared.record.Week.{Week}
 
 -- "The week lasts at most 2,400 minutes. A list has at most 16 batches, each with at most 10 recipes."
 abbrev pub maxMinutes : ℕ
-maxMinutes = 2400
+maxMinutes = maxSpan
 
 abbrev pub maxBatches : ℕ
 maxBatches = maxJobs

@@ -59,7 +59,7 @@ pub struct Week {
 impl Week {
     pub const MAX_BATCHES: usize = JobList::MAX_JOBS;
 
-    pub const MAX_MINUTES: u16 = 2400;
+    pub const MAX_MINUTES: u16 = JobList::MAX_SPAN;
 
     pub fn empty(opening: u16, closing: u16) -> Week
         ensures { λ r. ⌜ r ≡ emptyWeek opening closing ⌝ }

@@ -1,4 +1,4 @@
--- `stretch_all` meets its contract. The loop's invariant is that of the pass; the measure is how many jobs are nextBound.
+-- `stretch_all` meets its contract. The loop's invariant is that of the pass; the measure is how many jobs are left.
 use borrow.Author.Needs.{needs}
 use borrow.Author.Tests.{not-true, not-false}
 use native.Mathlib.Omega.{arith}

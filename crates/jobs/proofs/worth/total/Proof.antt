@@ -1,4 +1,4 @@
--- `total` meets its contract. The loop's invariant is that of the sum; the measure is how many jobs are nextBound.
+-- `total` meets its contract. The loop's invariant is that of the sum; the measure is how many jobs are left.
 use borrow.Author.Needs.{needs}
 use native.Mathlib.Omega.{arith}
 use Prim.Native.Nat.{_-_}

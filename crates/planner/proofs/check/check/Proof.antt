@@ -10,7 +10,7 @@ use Rattle.week.proofs.Owned.{worths-fit}
 use Rattle.week.proofs.Sound.{sound, named}
 use Rattle.planner.specs.Job.{jobListOf, weekJobs}
 use Rattle.planner.specs.Check.{weekChoice}
-use Rattle.planner.proofs.Jobs.{answerable}
+use Rattle.planner.proofs.Jobs.{handed-names, answerable}
 use Rattle.planner.proofs.Checking.{answer-refused, fault-handed, stretched-refused, stretched-passed}
 use borrow.Author.Needs.{needs}
 use Rattle.planner.proofs.check.check.Statement.{statement}
@@ -31,7 +31,8 @@ has-answer c =
     let start = c .before .before .before .before in
     let list = firstOf-none _ _ (passed-both c) in
     let names = firstOf-none _ _ (list .1) in
-    answerable _ _ (sound _ (list .0)) (named _ _ (names .0)) (worths-fit (start .args .week) _ (start .good .0))
+    let fine = sound _ (list .0) in
+    answerable _ fine (worths-fit (start .args .week) _ (start .good .0)) (handed-names _ fine (named _ _ (names .0)))
 
 -- and the rule's answer is over the jobs of the week
 stretched-of : (c : tie.After-stretch-all) →

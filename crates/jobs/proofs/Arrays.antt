@@ -1,0 +1,66 @@
+-- A choice as an array in list order, and as a list with the last job's version first: how the two say the same.
+use Prim.Native.Nat.{ℕ, zero, suc, _≤_, _<_}
+use native.Mathlib.Decide.{ℕ-discrete}
+use native.Mathlib.Omega.{arith}
+use mathlib.Core.Path.{_≡_, sym, subst, _∙_}
+use mathlib.Core.List.{List}
+use lib.ListN.{length, getD, take}
+use lib.Seq.{length-take-le}
+use Rattle.jobs.specs.declared.model.Job.{Job}
+use Rattle.jobs.specs.declared.model.JobList.{JobList}
+use Rattle.jobs.specs.Model.{maxJobs, maxVersions, noJob, backward, placed, jobsOf, chosen}
+use Rattle.jobs.specs.Choice.{Valid}
+use Rattle.jobs.specs.Contract.{Names}
+use Rattle.jobs.proofs.Places.{length-backward, backward-take, length-placed, backward-placed}
+use Rattle.jobs.proofs.Rules.{valid-length}
+
+module _ (jobs : List Job) (choice : List ℕ) where
+  -- place i names one of its job's versions
+  abbrev OneOf : ℕ → Type 0
+  OneOf i = (1 ≤ getD choice i 0) × (getD choice i 0 ≤ getD jobs i noJob .count)
+
+  each-valid : (n : ℕ) → ((i : ℕ) → i < n → OneOf i) → Valid (backward noJob jobs n) (backward 0 choice n)
+  each-valid zero each = tt
+  each-valid (suc n) each =
+      let last = each n (omega arith) in
+      (last .0, last .1, each-valid n (λ i l. each i (omega arith)))
+
+  valid-each : (n : ℕ) → Valid (backward noJob jobs n) (backward 0 choice n) → (i : ℕ) → i < n → OneOf i
+  valid-each zero valid i below = absurd (omega arith)
+  valid-each (suc n) valid i below =
+      elim (ℕ-discrete i n) [
+        | yes e ↦ subst (λ (k : ℕ). OneOf k) (sym e) (valid .0, valid .1)
+        | no other ↦ valid-each n (valid .2) i (omega arith)
+      ]
+
+-- an array that names one of its versions for each job is a choice of the jobs
+pub names-valid : {list : JobList} {choice : List ℕ} → Names list choice → Valid (jobsOf list) (chosen list choice)
+names-valid {list} {choice} names =
+    each-valid (list .jobs) choice (list .count) (λ i below. (names .low i below, names .high i below))
+
+module _ (list : JobList) (ks : List ℕ) (valid : Valid (jobsOf list) ks) where
+  pub length-choice : length ks ≡ list .count
+  length-choice = valid-length (jobsOf list) ks valid ∙ length-backward noJob (list .jobs) (list .count)
+
+  -- the array of a choice holds that choice, and so do the places that count
+  pub chosen-placed : chosen list (placed maxJobs 0 ks) ≡ ks
+  chosen-placed = rw (← length-choice) (backward-placed maxJobs 0 ks)
+
+  pub chosen-taken : chosen list (take (list .count) (placed maxJobs 0 ks)) ≡ ks
+  chosen-taken = backward-take 0 (placed maxJobs 0 ks) (list .count) (list .count) (omega arith) ∙ chosen-placed
+
+  -- those places name one of its versions for each job
+  pub valid-names : list .count ≤ maxJobs → ((i : ℕ) → i < list .count → getD (list .jobs) i noJob .count ≤ maxVersions) →
+      Names list (take (list .count) (placed maxJobs 0 ks))
+  valid-names most few =
+      let choice = take (list .count) (placed maxJobs 0 ks) in
+      let each = valid-each (list .jobs) choice (list .count) (rw chosen-taken valid) in
+      record {
+        most = most;
+        whole =
+            length-take-le (list .count) (placed maxJobs 0 ks)
+            (omega (arith, length-placed maxJobs 0 ks (omega (arith, length-choice))));
+        low = λ i below. each i below .0;
+        high = λ i below. each i below .1;
+        few = few;
+      }

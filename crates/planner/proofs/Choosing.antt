@@ -1,0 +1,148 @@
+-- Choose's answer: which refusal comes first, what is answered then, and what the table holds.
+use Prim.Native.Nat.{ℕ, _*_, _≤_, _<_}
+use native.Mathlib.Decide.{ℕ-discrete}
+use native.Mathlib.Omega.{arith}
+use mathlib.Core.Path.{_≡_, refl, sym, ap, _∙_}
+use mathlib.Core.Logic.{_↔_, _⊎_, inl, inr, ⊎-elim}
+use mathlib.Core.List.{List, [], _∷_}
+use mathlib.Core.Option.{Option, none, some}
+use lib.ListN.{length}
+use borrow.Author.Tests.{eq-eqb, ne-eqb, lt-ltb, le-ltb, ltb-false}
+use Rattle.jobs.specs.Model.{noJob}
+use Rattle.jobs.specs.Best.{best}
+use Rattle.jobs.proofs.Places.{length-backward}
+use Rattle.select.specs.Table.{filled}
+use Rattle.select.proofs.Picks.{length-filled}
+use Rattle.week.specs.declared.record.Week.{Week}
+use Rattle.week.specs.declared.refusal.Refusal.{Refusal}
+use Rattle.week.specs.Refusal.{refused, firstOf}
+use Rattle.week.specs.Fault.{listFault, WellFormed}
+use Rattle.week.proofs.First.{number-of, or-first, or-second, firstOf-here, firstOf-one, firstOf-last, firstOf-none, firstOf-append}
+use Rattle.week.proofs.First.{firstOf-proper, refusedIf-true, refusedIf-false, refusedIf-none, refusedIf-proper}
+use Rattle.week.proofs.Numbers.{or-within, refusedIf-within, accepted-within, list-number}
+use Rattle.planner.specs.declared.choose.Plan.{Plan}
+use Rattle.planner.specs.Job.{jobListOf, weekJobs}
+use Rattle.planner.specs.Choose.{widthOf, tableFault, planFault, chooseFault, fillFault, refusedPlan, planOf, chooseAnswer}
+use Rattle.planner.specs.Choose.{tableAfter, Fills, LongEnough}
+
+-- the best choice of a week's jobs, and its two cases
+abbrev pub weekBest : Week → Option (List ℕ)
+weekBest w = best (weekJobs w) (w .closing)
+
+pub best-cases : (w : Week) → (weekBest w ≡ none) ⊎ ((ks : List ℕ) × (weekBest w ≡ some ks))
+best-cases w = by-best (weekBest w)
+  where
+    by-best : (o : Option (List ℕ)) → (o ≡ none) ⊎ ((ks : List ℕ) × (o ≡ some ks))
+    by-best none = inl refl
+    by-best (some ks) = inr (ks, refl)
+
+plan-number : {a b : Plan} → a ≡ b → a .refusal .number ≡ b .refusal .number
+plan-number e = ap (λ (p : Plan). p .refusal .number) e
+
+module _ (w : Week) (size : ℕ) where
+  -- what refuses the filling
+  pub fault-list : (listFault w .number ≡ 0 → ⊥) → fillFault w size ≡ listFault w
+  unfolding fillFault
+  fault-list n = firstOf-here (listFault w) (tableFault w size ∷ []) n
+
+  pub fault-table : listFault w .number ≡ 0 → fillFault w size ≡ tableFault w size
+  unfolding fillFault tableFault
+  fault-table z = firstOf-last (listFault w) (tableFault w size) z (refusedIf-proper _ _ _ _)
+
+  pub table-short : size < w .count * widthOf w → tableFault w size ≡ refused 11 0 0
+  unfolding tableFault
+  table-short l = refusedIf-true 11 0 0 (lt-ltb _ _ l)
+
+  pub long-enough : LongEnough w size ↔ (w .count * widthOf w ≤ size)
+  unfolding tableFault
+  long-enough = (λ e. ltb-false _ _ (refusedIf-none _ _ _ _ (number-of e)), λ l. refusedIf-false 11 0 0 (le-ltb _ _ l))
+
+  pub faultless : (fillFault w size .number ≡ 0) ↔ (WellFormed w × LongEnough w size)
+  unfolding fillFault listFault tableFault
+  faultless = (
+    λ z.
+        let list = firstOf-none _ _ z in
+        (firstOf-proper _ (list .0), refusedIf-proper _ _ _ _ (firstOf-none _ _ (list .1) .0)),
+    λ h. number-of (fault-table (number-of (h .0)) ∙ h .1),
+  )
+
+  -- the first refusal of Choose's order
+  fault-fill : (fillFault w size .number ≡ 0 → ⊥) → chooseFault w size ≡ fillFault w size
+  unfolding chooseFault fillFault
+  fault-fill n =
+      firstOf-append (listFault w ∷ tableFault w size ∷ []) (planFault (weekBest w) ∷ []) ∙ or-first (fillFault w size) _ n
+
+  fault-plan : fillFault w size .number ≡ 0 → weekBest w ≡ none → chooseFault w size ≡ planFault none
+  unfolding chooseFault fillFault
+  fault-plan z e =
+      firstOf-append (listFault w ∷ tableFault w size ∷ []) (planFault (weekBest w) ∷ [])
+      ∙ or-second (fillFault w size) _ z
+      ∙ rw e (firstOf-one (planFault none) (λ none-at. absurd (omega arith)))
+
+  fault-number : fillFault w size .number ≤ 11
+  unfolding fillFault tableFault firstOf
+  fault-number =
+      or-within 11 (listFault w) _ (omega (arith, list-number w)) (search (or-within 11, refusedIf-within 11, accepted-within 11))
+
+  -- the answer
+  pub plan-refused : {r : Refusal} → fillFault w size ≡ r → (r .number ≡ 0 → ⊥) → chooseAnswer w size ≡ refusedPlan r
+  unfolding chooseAnswer
+  plan-refused {r} e n = rw (e, ne-eqb (r .number) 0 n)
+
+  pub plan-passed : fillFault w size .number ≡ 0 → {o : Option (List ℕ)} → weekBest w ≡ o → chooseAnswer w size ≡ planOf w o
+  unfolding chooseAnswer
+  plan-passed z e = rw (eq-eqb (fillFault w size .number) 0 z, e)
+
+  -- where it refuses, it is the first refusal
+  pub answer-fault : (chooseAnswer w size .refusal .number ≡ 0 → ⊥) → chooseAnswer w size ≡ refusedPlan (chooseFault w size)
+  unfolding planOf
+  answer-fault n =
+      elim (ℕ-discrete (fillFault w size .number) 0) [
+        | yes z ↦
+            ⊎-elim (λ e. plan-passed z e ∙ ap refusedPlan (sym (fault-plan z e)))
+            (λ s. absurd (n (plan-number (plan-passed z (s .1))))) (best-cases w)
+        | no f ↦ plan-refused refl f ∙ ap refusedPlan (sym (fault-fill f))
+      ]
+
+  -- it is a plan, or 14, exactly where nothing refuses the filling
+  pub fills-faultless : Fills w size ↔ (fillFault w size .number ≡ 0)
+  unfolding planOf refusedPlan
+  fills-faultless = (
+    λ fills.
+        elim (ℕ-discrete (fillFault w size .number) 0) [
+          | yes z ↦ z
+          | no n ↦
+              let same = plan-number (plan-refused refl n) in
+              absurd (⊎-elim (λ e. n (sym same ∙ e)) (λ e. omega (arith, fault-number)) fills)
+        ],
+    λ z.
+        ⊎-elim (λ e. inr (plan-number (plan-passed z e))) (λ s. inl (plan-number (plan-passed z (s .1)))) (best-cases w),
+  )
+
+  -- a plan where there is a best choice, and 14 where there is none
+  pub zero-some : chooseAnswer w size .refusal .number ≡ 0 → (ks : List ℕ) × (weekBest w ≡ some ks)
+  unfolding planOf refusedPlan
+  zero-some z =
+      let passed = fills-faultless .0 (inl z) in
+      ⊎-elim (λ e. absurd (omega (arith, plan-number (plan-passed passed e)))) (λ s. s) (best-cases w)
+
+  pub fourteen-none : chooseAnswer w size .refusal .number ≡ 14 → weekBest w ≡ none
+  unfolding planOf
+  fourteen-none f =
+      let passed = fills-faultless .0 (inr f) in
+      ⊎-elim (λ e. e) (λ s. absurd (omega (arith, plan-number (plan-passed passed (s .1))))) (best-cases w)
+
+-- the table
+module _ (w : Week) (table : List ℕ) where
+  pub table-kept : {r : Refusal} → fillFault w (length table) ≡ r → (r .number ≡ 0 → ⊥) → tableAfter w table ≡ table
+  unfolding tableAfter
+  table-kept {r} e n = rw (e, ne-eqb (r .number) 0 n)
+
+  pub table-filled : fillFault w (length table) .number ≡ 0 →
+      tableAfter w table ≡ filled (weekJobs w) (w .opening) (widthOf w) table
+  unfolding tableAfter
+  table-filled z = rw (eq-eqb (fillFault w (length table) .number) 0 z)
+
+  pub table-size : w .count * widthOf w ≤ length table → length (filled (weekJobs w) (w .opening) (widthOf w) table) ≡ length table
+  table-size long =
+      length-filled (weekJobs w) (w .opening) (widthOf w) table (rw (length-backward noJob (jobListOf w .jobs) (w .count)) long)

@@ -1,0 +1,92 @@
+-- Choose: what it answers and what it leaves in the picks table, on every list and every table.
+use Prim.Native.Nat.{ℕ, _+_, _-_, _*_, _≤_}
+use mathlib.Core.Path.{_≡_}
+use mathlib.Core.Logic.{_⊎_}
+use mathlib.Core.Bool.{true, cond}
+use mathlib.Core.List.{List, [], _∷_}
+use mathlib.Core.Option.{Option, none, some}
+use lib.ListN.{length, getD, replicate}
+use lib.Dec.{ltb, eqb}
+use Rattle.jobs.specs.declared.model.Job.{Job}
+use Rattle.jobs.specs.Model.{noJob, backward, placed}
+use Rattle.jobs.specs.Rule.{meets}
+use Rattle.jobs.specs.Choice.{Valid, total}
+use Rattle.jobs.specs.Best.{best, Chosen, pick}
+use Rattle.select.specs.Table.{filled, entryAt}
+use Rattle.week.specs.declared.record.Week.{Week}
+use Rattle.week.specs.declared.refusal.Refusal.{Refusal}
+use Rattle.planner.specs.declared.choose.Plan.{Plan}
+use Rattle.week.specs.Record.{maxBatches}
+use Rattle.week.specs.Refusal.{accepted, refused, refusedIf, firstOf}
+use Rattle.week.specs.Fault.{listFault}
+use Rattle.planner.specs.Job.{jobListOf, weekJobs}
+use Rattle.planner.specs.Check.{weekChoice}
+
+-- the minutes from t to c, both included: a row of the picks table has an entry for each
+abbrev pub widthOf : Week → ℕ
+widthOf w = w .closing - w .opening + 1
+
+-- "11: picks table shorter than n × (c − t + 1), n being the batches."
+unfoldable pub tableFault : Week → ℕ → Refusal
+tableFault w size = refusedIf 11 0 0 (ltb size (w .count * widthOf w))
+
+-- "14: no choice meets the rule (Choose)."
+abbrev pub planFault : Option (List ℕ) → Refusal
+planFault none = refused 14 0 0
+planFault (some ks) = accepted
+
+-- the refusals of Choose in their order, and those of them that leave the table as it was
+unfoldable pub chooseFault : Week → ℕ → Refusal
+chooseFault w size = firstOf (listFault w ∷ tableFault w size ∷ planFault (best (weekJobs w) (w .closing)) ∷ [])
+
+unfoldable pub fillFault : Week → ℕ → Refusal
+fillFault w size = firstOf (listFault w ∷ tableFault w size ∷ [])
+
+-- "Anything else that its record holds is 0".
+unfoldable pub refusedPlan : Refusal → Plan
+refusedPlan r = record { refusal = r; total = 0; choice = replicate maxBatches 0 }
+
+-- "Choose: list, table, answering the choice and its total."
+unfoldable pub planOf : Week → Option (List ℕ) → Plan
+planOf w none = refusedPlan (planFault none)
+planOf w (some ks) = record { refusal = accepted; total = total (weekJobs w) ks; choice = placed maxBatches 0 ks }
+
+unfoldable pub chooseAnswer : Week → ℕ → Plan
+chooseAnswer w size =
+    cond (eqb (fillFault w size .number) 0) (planOf w (best (weekJobs w) (w .closing))) (refusedPlan (fillFault w size))
+
+-- "Choosing fills a lent table of bytes." "The table is filled as well when refusal 14 is given." "Only 14 alters lent memory".
+unfoldable pub tableAfter : Week → List ℕ → List ℕ
+tableAfter w table =
+    cond (eqb (fillFault w (length table) .number) 0) (filled (weekJobs w) (w .opening) (widthOf w) table) table
+
+-- the table is filled: Choose answers a plan, or 14
+abbrev pub Fills : Week → ℕ → Type 0
+Fills w size = (chooseAnswer w size .refusal .number ≡ 0) ⊎ (chooseAnswer w size .refusal .number ≡ 14)
+
+-- the jobs of batches 1 to i, the last first
+abbrev pub firstJobs : Week → ℕ → List Job
+firstJobs w i = backward noJob (jobListOf w .jobs) i
+
+-- "For position i (from 1) and minute x from t to c, entry (i − 1) × (c − t + 1) + (x − t), counted from 0, is the recipe that
+-- the best choice for batches 1 to i, with x as the closing minute, gives to batch i; it is 0 if no choice exists." "Later bytes
+-- of the table keep their values."
+pub record PicksTable (w : Week) (before after : List ℕ) : Type 0 where
+  pub size : length after ≡ length before
+  pub entry : (i x : ℕ) → 1 ≤ i → i ≤ w .count → w .opening ≤ x → x ≤ w .closing →
+      getD after (entryAt (w .opening) (widthOf w) i x) 0 ≡ pick (firstJobs w i) x
+  pub later : (e : ℕ) → w .count * widthOf w ≤ e → getD after e 0 ≡ getD before e 0
+
+-- demand 3: "The chosen plan meets the rule and its total is the sum of its worths; every other choice that meets the rule has a
+-- smaller total, or the same total and a higher recipe number at the last batch where the two differ"
+pub record BestPlan (w : Week) (plan : Plan) : Type 0 where
+  pub chosen : Chosen (weekJobs w) (w .closing) (weekChoice w (plan .choice))
+  pub summed : plan .total ≡ total (weekJobs w) (weekChoice w (plan .choice))
+
+-- "no choice meets the rule"
+abbrev pub NoPlan : Week → Type 0
+NoPlan w = (c : List ℕ) → Valid (weekJobs w) c → meets (weekJobs w) (w .closing) c ≡ true → ⊥
+
+-- 01, "The words of demand 3": "A table is long enough if 11 does not hold".
+abbrev pub LongEnough : Week → ℕ → Type 0
+LongEnough w size = tableFault w size ≡ accepted

@@ -1,0 +1,9 @@
+pub mod Patches
+pub mod Takes
+pub mod Offers
+pub mod Cells
+pub mod Rows
+pub mod Picks
+pub mod Tables
+pub mod Entries
+pub mod Traceback

@@ -1,0 +1,36 @@
+-- The rows of picks in a table: how long they are, and one row more.
+use Prim.Native.Nat.{ℕ, _*_, _≤_}
+use native.Mathlib.Nat.{zero-mul, suc-mul}
+use native.Mathlib.Omega.{arith}
+use mathlib.Core.Path.{_≡_, sym, _∙_}
+use mathlib.Core.List.{List, [], _∷_, _++_, append-assoc}
+use lib.ListN.{length, take, drop, length-append, length-drop}
+use lib.Seq.{take-at, drop-at, drop-drop}
+use Rattle.jobs.specs.declared.model.Job.{Job}
+use Rattle.jobs.specs.Model.{tabulate}
+use Rattle.jobs.specs.Best.{pick}
+use Rattle.jobs.proofs.Places.{length-tabulate}
+use Rattle.select.specs.Table.{picks, filled}
+
+pub length-picks : (js : List Job) (t w : ℕ) → length (picks js t w) ≡ length js * w
+length-picks [] t w = sym (zero-mul w)
+length-picks (j ∷ js) t w = rw (length-append, length-tabulate, length-picks js t w, suc-mul)
+
+pub length-filled : (js : List Job) (t w : ℕ) (table : List ℕ) → length js * w ≤ length table →
+    length (filled js t w table) ≡ length table
+unfolding filled
+length-filled js t w table long = simp (length-append, length-picks, length-drop) (omega arith)
+
+pub filled-none : (t w : ℕ) (table : List ℕ) → filled [] t w table ≡ table
+unfolding filled
+filled-none t w table = rw zero-mul
+
+-- the row of one job more, put in after the rows that stand
+pub filled-more : (j : Job) (js : List Job) (t w at : ℕ) (table : List ℕ) → length js * w ≡ at →
+    {table′ row : List ℕ} → table′ ≡ filled js t w table → row ≡ tabulate (pick (j ∷ js)) t w →
+    take at table′ ++ (row ++ drop w (drop at table′)) ≡ filled (j ∷ js) t w table
+unfolding filled
+filled-more j js t w at table e stands exact =
+    let rest = drop (length js * w) table in
+    let size = length-picks js t w ∙ e in
+    rw (stands, exact, take-at (picks js t w) rest at size, drop-at (picks js t w) rest at size, drop-drop, suc-mul, append-assoc)
