@@ -83,3 +83,21 @@ pub fn sixteen(worth: u16) -> Week {
     }
     w
 }
+
+// A week of 20 to 30 with one batch of one minute, which arrives before it.
+pub fn early(due: u16) -> Week {
+    add(Week::empty(20, 30), one(1, 5, due, 1, 1))
+}
+
+// A batch that arrives after the bound, and is set aside.
+pub fn aside() -> Week {
+    let first = one(1, 0, 4, 2, 1);
+    let second = recipe(one(2, 8, 9, 1, 5), 0, 0);
+    let third = recipe(one(3, 0, 10, 9, 9), 6, 9);
+    add(pair(0, 10, first, second), third)
+}
+
+// A batch whose ready minute plus cost is past 65,535.
+pub fn wide() -> Week {
+    add(Week::empty(64000, 65535), one(1, 65000, 65535, 65535, 1))
+}

@@ -1,5 +1,5 @@
-// Check and Choose on lists, choices and tables at the edge of each refusal, and document 01's fixed examples. What each line
-// must be is worked out from document 01 and its readings, and stands in stdout.
+// Check and Choose on lists, choices and tables at the edge of each refusal, and document 01's fixed examples. stdout has each line
+// as document 01 and docs/DECISIONS.md say it.
 mod build;
 mod choices;
 mod lists;
@@ -16,5 +16,6 @@ fn main() {
     plans::examples();
     plans::sizes();
     plans::ties();
+    plans::limits();
     plans::tables();
 }

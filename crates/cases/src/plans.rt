@@ -1,13 +1,16 @@
-// Choose: document 01's fixed examples, the edge of refusal 11, ties, and the bytes of the table.
+// Choose: document 01's fixed examples, the edge of refusal 11, ties, limits, and the bytes of the table.
 use crate::build::add;
 use crate::build::alone;
+use crate::build::aside;
 use crate::build::batch;
+use crate::build::early;
 use crate::build::falling;
 use crate::build::one;
 use crate::build::pair;
 use crate::build::plain;
 use crate::build::recipe;
 use crate::build::sixteen;
+use crate::build::wide;
 use crate::show::show_plan;
 use crate::show::show_table;
 use week::record::Week;
@@ -32,10 +35,6 @@ fn case_j() -> Week {
     pair(0, 10, one(1, 5, 9, 4, 1), one(2, 0, 10, 5, 1))
 }
 
-fn case_k(due: u16) -> Week {
-    add(Week::empty(20, 30), one(1, 5, due, 1, 1))
-}
-
 pub fn examples() {
     show_plan(b"W", case_w(), 303);
     show_plan(b"E", case_e(2340), 7023);
@@ -44,8 +43,8 @@ pub fn examples() {
     show_plan(b"H", alone(plain(11, 1)), 11);
     show_plan(b"I", alone(recipe(plain(11, 1), 0, 0)), 11);
     show_plan(b"J", case_j(), 22);
-    show_plan(b"K", case_k(21), 11);
-    show_plan(b"K, due at 20", case_k(20), 11);
+    show_plan(b"K", early(21), 11);
+    show_plan(b"K, due at 20", early(20), 11);
     show_plan(b"L", Week::empty(0, 10), 0);
 }
 
@@ -55,31 +54,19 @@ pub fn sizes() {
     show_plan(b"W, one byte more", case_w(), 304);
     show_plan(b"one batch, no table", alone(plain(1, 1)), 0);
     show_plan(b"number 0, no table", alone(one(0, 0, 10, 1, 1)), 0);
-    show_plan(b"16 batches of the greatest worth", sixteen(65535), 1616);
-    show_plan(
-        b"ready plus cost past 65,535",
-        add(Week::empty(64000, 65535), one(1, 65000, 65535, 65535, 1)),
-        1536,
-    );
-}
-
-// A batch that arrives after the bound, and is set aside.
-fn aside() -> Week {
-    let first = one(1, 0, 4, 2, 1);
-    let second = recipe(one(2, 8, 9, 1, 5), 0, 0);
-    let third = recipe(one(3, 0, 10, 9, 9), 6, 9);
-    add(pair(0, 10, first, second), third)
 }
 
 pub fn ties() {
-    show_plan(
-        b"a reading worth nothing",
-        alone(recipe(plain(5, 0), 0, 0)),
-        11,
-    );
+    let nothing = alone(recipe(plain(5, 0), 0, 0));
+    show_plan(b"a reading worth nothing", nothing, 11);
     let first = recipe(one(1, 0, 4, 3, 1), 1, 1);
     let second = recipe(one(2, 0, 10, 8, 1), 6, 1);
     show_plan(b"the last batch decides", pair(0, 10, first, second), 22);
+}
+
+pub fn limits() {
+    show_plan(b"16 batches of the greatest worth", sixteen(65535), 1616);
+    show_plan(b"ready plus cost past 65,535", wide(), 1536);
     show_plan(b"set aside after the bound", aside(), 33);
 }
 
@@ -89,16 +76,10 @@ pub fn tables() {
     show_table(b"table of J, which has no plan", case_j(), 23);
     show_table(b"table of J, one byte too few", case_j(), 21);
     let short = Week::empty(0, 3);
-    show_table(
-        b"table, recipes of one worth",
-        add(short, recipe(one(1, 0, 3, 2, 3), 1, 3)),
-        5,
-    );
-    show_table(
-        b"table, a reading worth nothing",
-        add(short, recipe(one(1, 0, 3, 2, 0), 0, 0)),
-        5,
-    );
+    let tie = recipe(one(1, 0, 3, 2, 3), 1, 3);
+    show_table(b"table, recipes of one worth", add(short, tie), 5);
+    let nothing = recipe(one(1, 0, 3, 2, 0), 0, 0);
+    show_table(b"table, a reading worth nothing", add(short, nothing), 5);
     show_table(b"table, number 0", add(short, one(0, 0, 3, 1, 1)), 5);
     show_table(b"table, no batches", short, 1);
 }

@@ -51,7 +51,7 @@ fn bytes(s: &[u8], n: usize) {
 }
 
 // Check: the stretches of an accepted choice.
-pub fn show(name: &[u8], week: Week, choice: &[u8]) {
+pub fn show_check(name: &[u8], week: Week, choice: &[u8]) {
     let a = check(week, choice);
     let r = a.refusal;
     head(name, r, a.total);

@@ -11,13 +11,14 @@ const WEEKS: usize = 5000;
 
 const SEED: usize = 20261115;
 
-// The next number of a linear congruential sequence, and a number below n from its upper bits.
+// The next number of a linear congruential sequence.
 fn next(s: usize) -> usize
     ensures { λ r. ⌜ r < 2147483648 ⌝ }
 {
     (s % 2147483648 * 1103515245 + 12345) % 2147483648
 }
 
+// A number below n from the upper bits of one.
 fn below(s: usize, n: usize) -> u16
     requires { ⌜ (0 < n) × (n ≤ 65536) ⌝ }
     ensures { λ r. ⌜ r < n ⌝ }
@@ -71,6 +72,7 @@ fn with_batches(week: Week, seed: usize) -> Week {
     w.count = n;
     let mut due = 1;
     for i in 0..n {
+        // Off the numbers that the batch before has drawn.
         s = next(s + 7919);
         due += below(next(s), 5);
         w.batches[i] = batch(i as u16 + 1, due, s);

@@ -68,14 +68,14 @@ fn meets(w: Week, recipes: [u8; Week::MAX_BATCHES], x: usize) -> bool {
         let b = w.batches[i];
         let cost = recipe(b, recipes[i]).cost as usize;
         if 0 < cost {
-            let start = if w.opening < b.arrival {
+            let ready = if w.opening < b.arrival {
                 b.arrival
             } else {
                 w.opening
             };
             let due = b.due as usize;
             let end = if due < bound { due } else { bound };
-            if end < (start as usize) + cost {
+            if end < (ready as usize) + cost {
                 return false;
             }
             bound = end - cost;

@@ -66,12 +66,14 @@ pub fn judge(t: Tally, w: Week) -> Tally {
     let p = choose(w, &mut table);
     let r = p.refusal;
     let filled = r.number == 0 || r.number == 14;
-    let mut b = none();
-    let mut same = true;
-    if filled {
-        b = best(w, w.count, w.closing as usize);
-        same = no_place(r);
-    }
-    same = same && same_plan(p, b) && same_table(w, filled, &table);
-    t.with(r.number, same)
+    let b = if filled {
+        best(w, w.count, w.closing as usize)
+    } else {
+        none()
+    };
+    let placed = !filled || no_place(r);
+    t.with(
+        r.number,
+        placed && same_plan(p, b) && same_table(w, filled, &table),
+    )
 }

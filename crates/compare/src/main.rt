@@ -1,5 +1,5 @@
-// Choose, table included, against trying every choice: over all weeks of a small family and over generated ones. What the
-// counts must be was worked out from document 01 apart from this program, and stands in stdout.
+// Choose, table included, against trying every choice: over all weeks of a small family and over generated ones. The counts that
+// document 01's text gives stand in stdout.
 mod draw;
 mod every;
 mod family;

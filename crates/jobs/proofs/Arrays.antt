@@ -4,14 +4,13 @@ use native.Mathlib.Decide.{ℕ-discrete}
 use native.Mathlib.Omega.{arith}
 use mathlib.Core.Path.{_≡_, sym, subst, _∙_}
 use mathlib.Core.List.{List}
-use lib.ListN.{length, getD, take}
-use lib.Seq.{length-take-le}
+use lib.ListN.{length, getD}
 use Rattle.jobs.specs.declared.model.Job.{Job}
 use Rattle.jobs.specs.declared.model.JobList.{JobList}
 use Rattle.jobs.specs.Model.{maxJobs, maxVersions, noJob, backward, placed, jobsOf, chosen}
 use Rattle.jobs.specs.Choice.{Valid}
 use Rattle.jobs.specs.Contract.{Names}
-use Rattle.jobs.proofs.Places.{length-backward, backward-take, length-placed, backward-placed}
+use Rattle.jobs.proofs.Places.{length-backward, length-placed, backward-placed}
 use Rattle.jobs.proofs.Rules.{valid-length}
 
 module _ (jobs : List Job) (choice : List ℕ) where
@@ -42,24 +41,18 @@ module _ (list : JobList) (ks : List ℕ) (valid : Valid (jobsOf list) ks) where
   pub length-choice : length ks ≡ list .count
   length-choice = valid-length (jobsOf list) ks valid ∙ length-backward noJob (list .jobs) (list .count)
 
-  -- the array of a choice holds that choice, and so do the places that count
+  -- the array of a choice holds that choice
   pub chosen-placed : chosen list (placed maxJobs 0 ks) ≡ ks
   chosen-placed = rw (← length-choice) (backward-placed maxJobs 0 ks)
 
-  pub chosen-taken : chosen list (take (list .count) (placed maxJobs 0 ks)) ≡ ks
-  chosen-taken = backward-take 0 (placed maxJobs 0 ks) (list .count) (list .count) (omega arith) ∙ chosen-placed
-
-  -- those places name one of its versions for each job
+  -- and names one of its versions for each job
   pub valid-names : list .count ≤ maxJobs → ((i : ℕ) → i < list .count → getD (list .jobs) i noJob .count ≤ maxVersions) →
-      Names list (take (list .count) (placed maxJobs 0 ks))
+      Names list (placed maxJobs 0 ks)
   valid-names most few =
-      let choice = take (list .count) (placed maxJobs 0 ks) in
-      let each = valid-each (list .jobs) choice (list .count) (rw chosen-taken valid) in
+      let each = valid-each (list .jobs) (placed maxJobs 0 ks) (list .count) (rw chosen-placed valid) in
       record {
         most = most;
-        whole =
-            length-take-le (list .count) (placed maxJobs 0 ks)
-            (omega (arith, length-placed maxJobs 0 ks (omega (arith, length-choice))));
+        whole = omega (arith, length-placed maxJobs 0 ks (omega (arith, length-choice)));
         low = λ i below. each i below .0;
         high = λ i below. each i below .1;
         few = few;

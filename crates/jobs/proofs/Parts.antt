@@ -70,7 +70,7 @@ module _ (j : Job) (js : List Job) (x : ℕ) where
       by-best (some []) e nothing = absurd (best-full e)
       by-best (some (k ∷ ks)) e nothing = absurd (omega (arith, best-parts k ks e .low))
 
-  -- any other is its first version
+  -- any other is the last job's version in it
   pub pick-some : {k : ℕ} → k ≡ pick (j ∷ js) x → (k ≡ 0 → ⊥) →
       (ks : List ℕ) × (best (j ∷ js) x ≡ some (k ∷ ks)) × Parts j js x k ks
   pick-some {k} picked other = by-best (best (j ∷ js) x) refl picked

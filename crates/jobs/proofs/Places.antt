@@ -3,18 +3,14 @@ use Prim.Native.Nat.{ℕ, zero, suc, _+_, _-_, _≤_, _<_}
 use native.Mathlib.Omega.{arith}
 use mathlib.Core.Path.{_≡_, refl, ap, ap₂, subst, _∙_}
 use mathlib.Core.List.{List, [], _∷_, _++_, append-assoc}
-use lib.ListN.{length, getD, take, drop, replicate, length-append, length-replicate, replicate-append-replicate}
-use lib.Seq.{getD-at, getD-append-add, getD-take, drop-at}
+use lib.ListN.{length, getD, drop, replicate, length-append, length-replicate, replicate-append-replicate}
+use lib.Seq.{getD-at, getD-append-add, drop-at}
 use Rattle.jobs.specs.Model.{backward, forward, tabulate, placed}
 
 module _ {A : Type 0} where
   pub length-backward : (d : A) (xs : List A) (i : ℕ) → length (backward d xs i) ≡ i
   length-backward d xs zero = refl
   length-backward d xs (suc i) = ap suc (length-backward d xs i)
-
-  pub backward-take : (d : A) (xs : List A) (n i : ℕ) → i ≤ n → backward d (take n xs) i ≡ backward d xs i
-  backward-take d xs n zero h = refl
-  backward-take d xs n (suc i) h = ap₂ _∷_ (getD-take n xs i d h) (backward-take d xs n i (omega arith))
 
   length-forward : (xs : List A) → length (forward xs) ≡ length xs
   length-forward [] = refl

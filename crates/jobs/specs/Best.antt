@@ -1,5 +1,5 @@
 -- The best choice, over every choice and the rule: no search is mentioned here.
-use Prim.Native.Nat.{ℕ, suc, _<_}
+use Prim.Native.Nat.{ℕ, _<_}
 use mathlib.Core.Path.{_≡_}
 use mathlib.Core.Logic.{_⊎_}
 use mathlib.Core.Bool.{Bool, true, cond}
@@ -48,11 +48,3 @@ lastVersion (some (k ∷ ks)) = k
 -- is 0 if no choice exists"
 abbrev pub pick : List Job → ℕ → ℕ
 pick js x = lastVersion (best js x)
-
--- 0 if no choice exists, else one more than the total: no choice is not a total of 0
-abbrev pub scoreBy : (List ℕ → ℕ) → Option (List ℕ) → ℕ
-scoreBy v none = 0
-scoreBy v (some c) = suc (v c)
-
-abbrev pub score : List Job → ℕ → ℕ
-score js x = scoreBy (total js) (best js x)

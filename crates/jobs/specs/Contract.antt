@@ -1,6 +1,5 @@
 -- What the core's functions ask and answer.
 use Prim.Native.Nat.{ℕ, _≤_, _<_}
-use mathlib.Core.Path.{_≡_}
 use mathlib.Core.Bool.{cond}
 use mathlib.Core.List.{List}
 use lib.ListN.{length, getD, replicate}
@@ -16,7 +15,7 @@ use Rattle.jobs.specs.Choice.{total}
 -- a choice, in list order, that names one of its versions for each job of a list
 pub record Names (list : JobList) (choice : List ℕ) : Type 0 where
   pub most : list .count ≤ maxJobs
-  pub whole : length choice ≡ list .count
+  pub whole : list .count ≤ length choice
   pub low : (i : ℕ) → i < list .count → 1 ≤ getD choice i 0
   pub high : (i : ℕ) → i < list .count → getD choice i 0 ≤ getD (list .jobs) i noJob .count
   pub few : (i : ℕ) → i < list .count → getD (list .jobs) i noJob .count ≤ maxVersions

@@ -42,6 +42,7 @@ pub struct JobList {
 impl JobList {
     pub const MAX_JOBS: usize = 16;
 
-    // The week's limit, in minutes from the opening to the close. The rows of the dynamic programme have an entry for each.
+    // The week's limit, in minutes from the opening to the close. A row of the dynamic programme has one entry more, both ends
+    // counted.
     pub const MAX_SPAN: u16 = 2400;
 }

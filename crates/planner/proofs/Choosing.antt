@@ -4,12 +4,15 @@ use native.Mathlib.Decide.{ℕ-discrete}
 use native.Mathlib.Omega.{arith}
 use mathlib.Core.Path.{_≡_, refl, sym, ap, _∙_}
 use mathlib.Core.Logic.{_↔_, _⊎_, inl, inr, ⊎-elim}
+use mathlib.Core.Bool.{false}
 use mathlib.Core.List.{List, [], _∷_}
 use mathlib.Core.Option.{Option, none, some}
 use lib.ListN.{length}
-use borrow.Author.Tests.{eq-eqb, ne-eqb, lt-ltb, le-ltb, ltb-false}
+use lib.Dec.{eqb}
+use borrow.Author.Tests.{eq-eqb, ne-eqb, eqb-false, lt-ltb, le-ltb, ltb-false}
 use Rattle.jobs.specs.Model.{noJob}
 use Rattle.jobs.specs.Best.{best}
+use Rattle.jobs.proofs.Cases.{option-cases}
 use Rattle.jobs.proofs.Places.{length-backward}
 use Rattle.select.specs.Table.{filled}
 use Rattle.select.proofs.Picks.{length-filled}
@@ -17,24 +20,17 @@ use Rattle.week.specs.declared.record.Week.{Week}
 use Rattle.week.specs.declared.refusal.Refusal.{Refusal}
 use Rattle.week.specs.Refusal.{refused, firstOf}
 use Rattle.week.specs.Fault.{listFault, WellFormed}
-use Rattle.week.proofs.First.{number-of, or-first, or-second, firstOf-here, firstOf-one, firstOf-last, firstOf-none, firstOf-append}
+use Rattle.week.proofs.First.{number-of, or-first, or-second, firstOf-here, firstOf-last, firstOf-none}
 use Rattle.week.proofs.First.{firstOf-proper, refusedIf-true, refusedIf-false, refusedIf-none, refusedIf-proper}
-use Rattle.week.proofs.Numbers.{or-within, refusedIf-within, accepted-within, list-number}
+use Rattle.week.proofs.Numbers.{or-other, refusedIf-other, list-other}
 use Rattle.planner.specs.declared.choose.Plan.{Plan}
 use Rattle.planner.specs.Job.{jobListOf, weekJobs}
 use Rattle.planner.specs.Choose.{widthOf, tableFault, planFault, chooseFault, fillFault, refusedPlan, planOf, chooseAnswer}
 use Rattle.planner.specs.Choose.{tableAfter, Fills, LongEnough}
 
--- the best choice of a week's jobs, and its two cases
+-- the best choice of a week's jobs
 abbrev pub weekBest : Week → Option (List ℕ)
 weekBest w = best (weekJobs w) (w .closing)
-
-pub best-cases : (w : Week) → (weekBest w ≡ none) ⊎ ((ks : List ℕ) × (weekBest w ≡ some ks))
-best-cases w = by-best (weekBest w)
-  where
-    by-best : (o : Option (List ℕ)) → (o ≡ none) ⊎ ((ks : List ℕ) × (o ≡ some ks))
-    by-best none = inl refl
-    by-best (some ks) = inr (ks, refl)
 
 plan-number : {a b : Plan} → a ≡ b → a .refusal .number ≡ b .refusal .number
 plan-number e = ap (λ (p : Plan). p .refusal .number) e
@@ -68,21 +64,16 @@ module _ (w : Week) (size : ℕ) where
 
   -- the first refusal of Choose's order
   fault-fill : (fillFault w size .number ≡ 0 → ⊥) → chooseFault w size ≡ fillFault w size
-  unfolding chooseFault fillFault
-  fault-fill n =
-      firstOf-append (listFault w ∷ tableFault w size ∷ []) (planFault (weekBest w) ∷ []) ∙ or-first (fillFault w size) _ n
+  unfolding chooseFault
+  fault-fill n = or-first (fillFault w size) _ n
 
   fault-plan : fillFault w size .number ≡ 0 → weekBest w ≡ none → chooseFault w size ≡ planFault none
-  unfolding chooseFault fillFault
-  fault-plan z e =
-      firstOf-append (listFault w ∷ tableFault w size ∷ []) (planFault (weekBest w) ∷ [])
-      ∙ or-second (fillFault w size) _ z
-      ∙ rw e (firstOf-one (planFault none) (λ none-at. absurd (omega arith)))
+  unfolding chooseFault
+  fault-plan z e = or-second (fillFault w size) _ z ∙ ap planFault e
 
-  fault-number : fillFault w size .number ≤ 11
+  fault-other : eqb (fillFault w size .number) 14 ≡ false
   unfolding fillFault tableFault firstOf
-  fault-number =
-      or-within 11 (listFault w) _ (omega (arith, list-number w)) (search (or-within 11, refusedIf-within 11, accepted-within 11))
+  fault-other = search (or-other 14, refusedIf-other 14, list-other w)
 
   -- the answer
   pub plan-refused : {r : Refusal} → fillFault w size ≡ r → (r .number ≡ 0 → ⊥) → chooseAnswer w size ≡ refusedPlan r
@@ -100,12 +91,12 @@ module _ (w : Week) (size : ℕ) where
       elim (ℕ-discrete (fillFault w size .number) 0) [
         | yes z ↦
             ⊎-elim (λ e. plan-passed z e ∙ ap refusedPlan (sym (fault-plan z e)))
-            (λ s. absurd (n (plan-number (plan-passed z (s .1))))) (best-cases w)
+            (λ s. absurd (n (plan-number (plan-passed z (s .1))))) (option-cases (weekBest w))
         | no f ↦ plan-refused refl f ∙ ap refusedPlan (sym (fault-fill f))
       ]
 
   -- it is a plan, or 14, exactly where nothing refuses the filling
-  pub fills-faultless : Fills w size ↔ (fillFault w size .number ≡ 0)
+  pub fills-faultless : Fills (chooseAnswer w size) ↔ (fillFault w size .number ≡ 0)
   unfolding planOf refusedPlan
   fills-faultless = (
     λ fills.
@@ -113,10 +104,10 @@ module _ (w : Week) (size : ℕ) where
           | yes z ↦ z
           | no n ↦
               let same = plan-number (plan-refused refl n) in
-              absurd (⊎-elim (λ e. n (sym same ∙ e)) (λ e. omega (arith, fault-number)) fills)
+              absurd (⊎-elim (λ e. n (sym same ∙ e)) (λ e. eqb-false _ _ fault-other (sym same ∙ e)) fills)
         ],
     λ z.
-        ⊎-elim (λ e. inr (plan-number (plan-passed z e))) (λ s. inl (plan-number (plan-passed z (s .1)))) (best-cases w),
+        ⊎-elim (λ e. inr (plan-number (plan-passed z e))) (λ s. inl (plan-number (plan-passed z (s .1)))) (option-cases (weekBest w)),
   )
 
   -- a plan where there is a best choice, and 14 where there is none
@@ -124,13 +115,13 @@ module _ (w : Week) (size : ℕ) where
   unfolding planOf refusedPlan
   zero-some z =
       let passed = fills-faultless .0 (inl z) in
-      ⊎-elim (λ e. absurd (omega (arith, plan-number (plan-passed passed e)))) (λ s. s) (best-cases w)
+      ⊎-elim (λ e. absurd (omega (arith, plan-number (plan-passed passed e)))) (λ s. s) (option-cases (weekBest w))
 
   pub fourteen-none : chooseAnswer w size .refusal .number ≡ 14 → weekBest w ≡ none
   unfolding planOf
   fourteen-none f =
       let passed = fills-faultless .0 (inr f) in
-      ⊎-elim (λ e. e) (λ s. absurd (omega (arith, plan-number (plan-passed passed (s .1))))) (best-cases w)
+      ⊎-elim (λ e. e) (λ s. absurd (omega (arith, plan-number (plan-passed passed (s .1))))) (option-cases (weekBest w))
 
 -- the table
 module _ (w : Week) (table : List ℕ) where

@@ -1,5 +1,6 @@
--- The buyer's demands, each with its theorem. The contracts say that the code answers what the definitions say, on every
--- input; the theorems here say that the definitions are what the buyer asked for.
+-- The buyer's demands, each quoted above its theorem; README.md has all three, and 01's "The words of demand 3" says what their words
+-- mean. The contracts say that the code answers what the definitions say, on every input; the theorems here say that the
+-- definitions are what the buyer asked for.
 use Prim.Native.Nat.{ℕ, _-_, _≤_, _<_}
 use native.Mathlib.Omega.{arith}
 use mathlib.Core.Path.{_≡_, refl, sym, _∙_}
@@ -45,11 +46,11 @@ pub choose-refuses : (w : Week) (size : ℕ) → (chooseAnswer w size .refusal .
 choose-refuses = answer-fault
 
 -- .. and "a refused call alters no lent memory but the one table 01 names".
-pub choose-keeps : (w : Week) (table : List ℕ) → (Fills w (length table) → ⊥) → tableAfter w table ≡ table
+pub choose-keeps : (w : Week) (table : List ℕ) → (Fills (chooseAnswer w (length table)) → ⊥) → tableAfter w table ≡ table
 choose-keeps w table n = table-kept w table refl (λ z. n (fills-faultless w (length table) .1 z))
 
 -- That table, where Choose answers a plan or 14: each of its bytes is what 01 says of it ..
-module _ (w : Week) (table : List ℕ) (fills : Fills w (length table)) where
+module _ (w : Week) (table : List ℕ) (fills : Fills (chooseAnswer w (length table))) where
   passed-both : WellFormed w × LongEnough w (length table)
   passed-both = faultless w (length table) .0 (fills-faultless w (length table) .0 fills)
 

@@ -3,7 +3,7 @@ use Prim.Native.Nat.{ℕ, zero, suc, _-_, _*_, _≤_, _<_}
 use native.Mathlib.Omega.{arith}
 use mathlib.Core.Path.{_≡_, ap}
 use mathlib.Core.List.{List}
-use lib.ListN.{getD, take}
+use lib.ListN.{getD}
 use Rattle.jobs.specs.declared.model.Version.{Version}
 use Rattle.jobs.specs.declared.model.Job.{Job}
 use Rattle.jobs.specs.Model.{maxVersions, noVersion, noJob, versionOf, placed}
@@ -13,7 +13,7 @@ use Rattle.jobs.proofs.Arrays.{valid-names}
 use Rattle.jobs.proofs.Named.{named-version}
 use Rattle.jobs.proofs.Places.{tabulate-at}
 use Rattle.jobs.proofs.Sums.{sum-small}
-use Rattle.select.specs.Table.{Tabled}
+use Rattle.select.specs.Contract.{Fillable}
 use Rattle.week.specs.declared.record.Batch.{Batch}
 use Rattle.week.specs.declared.record.Week.{Week}
 use Rattle.week.specs.Record.{maxBatches, maxRecipes, batchAt, recipeAt}
@@ -42,17 +42,17 @@ module _ (w : Week) (sound : Sound w) where
   handed-names named =
       record {
         most = sound .most;
-        whole = named .whole;
+        whole = omega (arith, named .whole);
         low = named .low;
         high = λ i l. omega (arith, count-at i l, named .high i l);
         few = few-versions;
       }
 
   -- and so does a choice of the jobs, in list order
-  pub plan-names : (ks : List ℕ) → Valid (weekJobs w) ks → Names (jobListOf w) (take (w .count) (placed maxBatches 0 ks))
+  pub plan-names : (ks : List ℕ) → Valid (weekJobs w) ks → Names (jobListOf w) (placed maxBatches 0 ks)
   plan-names ks valid = valid-names (jobListOf w) ks valid (sound .most) few-versions
 
-  -- its total fits 32 bits, each worth being one of 16
+  -- its total fits 32 bits, each worth having 16
   module _
       (fit : (i k : ℕ) → i < maxBatches → k < maxRecipes → recipeAt (batchAt w i) k .worth < 65536)
       {choice : List ℕ} (names : Names (jobListOf w) choice)
@@ -76,8 +76,8 @@ module _ (w : Week) (sound : Sound w) where
           }
 
   -- a table that is long enough has a row for each job
-  pub tabled : (size : ℕ) → w .count * widthOf w ≤ size → Tabled (jobListOf w) (w .opening) (widthOf w) size
-  tabled size long =
+  pub fillable : (size : ℕ) → w .count * widthOf w ≤ size → Fillable (jobListOf w) (w .opening) (widthOf w) size
+  fillable size long =
       record {
         most = sound .most;
         few = few-versions;

@@ -17,7 +17,7 @@ use Rattle.week.specs.declared.record.Week.{Week}
 use Rattle.week.specs.declared.refusal.Refusal.{Refusal}
 use Rattle.planner.specs.declared.choose.Plan.{Plan}
 use Rattle.week.specs.Record.{maxBatches}
-use Rattle.week.specs.Refusal.{accepted, refused, refusedIf, firstOf}
+use Rattle.week.specs.Refusal.{accepted, refused, refusedIf, orElse, firstOf}
 use Rattle.week.specs.Fault.{listFault}
 use Rattle.planner.specs.Job.{jobListOf, weekJobs}
 use Rattle.planner.specs.Check.{weekChoice}
@@ -35,12 +35,13 @@ abbrev pub planFault : Option (List ℕ) → Refusal
 planFault none = refused 14 0 0
 planFault (some ks) = accepted
 
--- the refusals of Choose in their order, and those of them that leave the table as it was
-unfoldable pub chooseFault : Week → ℕ → Refusal
-chooseFault w size = firstOf (listFault w ∷ tableFault w size ∷ planFault (best (weekJobs w) (w .closing)) ∷ [])
-
+-- the refusals that leave the table as it was, in their order
 unfoldable pub fillFault : Week → ℕ → Refusal
 fillFault w size = firstOf (listFault w ∷ tableFault w size ∷ [])
+
+-- and all of Choose's: "Order: .. 1, 2, 3; then batch by batch 4 to 10 ..; 11; .. then 14"
+unfoldable pub chooseFault : Week → ℕ → Refusal
+chooseFault w size = orElse (fillFault w size) (planFault (best (weekJobs w) (w .closing)))
 
 -- "Anything else that its record holds is 0".
 unfoldable pub refusedPlan : Refusal → Plan
@@ -60,9 +61,9 @@ unfoldable pub tableAfter : Week → List ℕ → List ℕ
 tableAfter w table =
     cond (eqb (fillFault w (length table) .number) 0) (filled (weekJobs w) (w .opening) (widthOf w) table) table
 
--- the table is filled: Choose answers a plan, or 14
-abbrev pub Fills : Week → ℕ → Type 0
-Fills w size = (chooseAnswer w size .refusal .number ≡ 0) ⊎ (chooseAnswer w size .refusal .number ≡ 14)
+-- an answer with which the table is filled: a plan, or 14
+abbrev pub Fills : Plan → Type 0
+Fills plan = (plan .refusal .number ≡ 0) ⊎ (plan .refusal .number ≡ 14)
 
 -- the jobs of batches 1 to i, the last first
 abbrev pub firstJobs : Week → ℕ → List Job

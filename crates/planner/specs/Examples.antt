@@ -1,14 +1,15 @@
 -- Document 01, "Fixed examples", A to L, computed from the definitions: one table, one claim.
 use Prim.Native.Nat.{ℕ, zero, suc, _+_, _*_, _-_}
 use mathlib.Core.Path.{_≡_, refl}
-use mathlib.Core.Bool.{Bool, true, false, cond, _&&_}
+use mathlib.Core.Bool.{Bool, true, false, _&&_}
 use mathlib.Core.List.{List, [], _∷_, _++_}
 use lib.ListN.{length, take, replicate}
 use lib.Dec.{eqb}
 use Rattle.jobs.specs.declared.rule.Stretch.{Stretch}
 use Rattle.jobs.specs.Rule.{stretchOf, fits, nextBound}
-use Rattle.jobs.specs.Best.{best, score}
+use Rattle.jobs.specs.Best.{best}
 use Rattle.edf.specs.Run.{entries, minutesLeft, firstOpen, logOf, idle, changesAfter, changes, upToLast, outcomeOf, outcomeNumbers}
+use Rattle.select.specs.Row.{score}
 use Rattle.select.specs.Table.{filled}
 use Rattle.week.specs.declared.record.Recipe.{Recipe}
 use Rattle.week.specs.declared.record.Batch.{Batch}
@@ -86,14 +87,12 @@ weekP : List Recipe → Week
 weekP rs = week 0 3 (batch 1 0 3 rs ∷ [])
 
 -- The answers as numbers.
--- Choose's refusal, total and recipes, in list order; of a refusal its number alone
+-- Choose's refusal, total and recipes, with a table that is just long enough
 abbrev planNumbers : ℕ → Plan → List ℕ
-planNumbers n p =
-    cond (eqb (p .refusal .number) 0) (p .refusal .number ∷ p .total ∷ take n (p .choice)) (p .refusal .number ∷ [])
+planNumbers n p = p .refusal .number ∷ p .refusal .place ∷ p .refusal .recipe ∷ p .total ∷ take n (p .choice)
 
--- with a table that is just long enough
-abbrev bestPlan : Week → List ℕ
-bestPlan w = planNumbers (w .count) (chooseAnswer w (w .count * widthOf w))
+abbrev choose : Week → List ℕ
+choose w = planNumbers (w .count) (chooseAnswer w (w .count * widthOf w))
 
 abbrev stretchNumbers : List Stretch → List ℕ
 stretchNumbers [] = []
@@ -131,7 +130,7 @@ a is b = record { said = a; written = b }
 table : List Example
 table =
     -- A, with the stretches that case W prints
-    (bestPlan weekW is (0 ∷ 22 ∷ 2 ∷ 1 ∷ 1 ∷ []))
+    (choose weekW is (0 ∷ 0 ∷ 0 ∷ 22 ∷ 2 ∷ 1 ∷ 1 ∷ []))
     ∷ (check weekW (2 ∷ 1 ∷ 1 ∷ []) is (0 ∷ 0 ∷ 0 ∷ 22 ∷ 10 ∷ 20 ∷ 20 ∷ 50 ∷ 50 ∷ 100 ∷ []))
     -- B
     ∷ (check weekW (1 ∷ 1 ∷ 2 ∷ []) is (0 ∷ 0 ∷ 0 ∷ 22 ∷ 0 ∷ 30 ∷ 30 ∷ 60 ∷ 80 ∷ 100 ∷ []))
@@ -140,24 +139,24 @@ table =
     -- D
     ∷ (run weekW (2 ∷ 1 ∷ 1 ∷ []) is (4 ∷ 10 ∷ 1 ∷ 10 ∷ 1 ∷ 50 ∷ 1 ∷ 90 ∷ []))
     -- E: the bound for batch 1 is the start of batch 2's stretch, 100
-    ∷ (bestPlan (weekE 2340) is (0 ∷ 23 ∷ 8 ∷ 1 ∷ 1 ∷ []))
+    ∷ (choose (weekE 2340) is (0 ∷ 0 ∷ 0 ∷ 23 ∷ 8 ∷ 1 ∷ 1 ∷ []))
     ∷ (check (weekE 2340) (8 ∷ 1 ∷ 1 ∷ []) is (0 ∷ 0 ∷ 0 ∷ 23 ∷ 7 ∷ 100 ∷ 100 ∷ 1010 ∷ 2120 ∷ 2340 ∷ []))
     -- F, and the choice that ties and loses
-    ∷ (bestPlan (weekE 1000) is (0 ∷ 13 ∷ 10 ∷ 1 ∷ 9 ∷ []))
+    ∷ (choose (weekE 1000) is (0 ∷ 0 ∷ 0 ∷ 13 ∷ 10 ∷ 1 ∷ 9 ∷ []))
     ∷ (check (weekE 1000) (9 ∷ 1 ∷ 10 ∷ []) is (0 ∷ 0 ∷ 0 ∷ 13 ∷ 6 ∷ 68 ∷ 68 ∷ 978 ∷ 978 ∷ 1000 ∷ []))
     -- G, H, I
-    ∷ (bestPlan (weekG (recipe 10 1 ∷ [])) is (0 ∷ 1 ∷ 1 ∷ []))
-    ∷ (bestPlan (weekG (recipe 11 1 ∷ [])) is (14 ∷ []))
-    ∷ (bestPlan (weekG (recipe 11 1 ∷ recipe 0 0 ∷ [])) is (0 ∷ 0 ∷ 2 ∷ []))
+    ∷ (choose (weekG (recipe 10 1 ∷ [])) is (0 ∷ 0 ∷ 0 ∷ 1 ∷ 1 ∷ []))
+    ∷ (choose (weekG (recipe 11 1 ∷ [])) is (14 ∷ 0 ∷ 0 ∷ 0 ∷ 0 ∷ []))
+    ∷ (choose (weekG (recipe 11 1 ∷ recipe 0 0 ∷ [])) is (0 ∷ 0 ∷ 0 ∷ 0 ∷ 2 ∷ []))
     -- J: no plan, yet the run finishes at 9 and 5
-    ∷ (bestPlan weekJ is (14 ∷ []))
+    ∷ (choose weekJ is (14 ∷ 0 ∷ 0 ∷ 0 ∷ 0 ∷ 0 ∷ []))
     ∷ (run weekJ (1 ∷ 1 ∷ []) is (2 ∷ 1 ∷ 1 ∷ 9 ∷ 1 ∷ 5 ∷ []))
     -- K
-    ∷ (bestPlan (weekK 21) is (0 ∷ 1 ∷ 1 ∷ []))
+    ∷ (choose (weekK 21) is (0 ∷ 0 ∷ 0 ∷ 1 ∷ 1 ∷ []))
     ∷ (check (weekK 21) (1 ∷ []) is (0 ∷ 0 ∷ 0 ∷ 1 ∷ 20 ∷ 21 ∷ []))
-    ∷ (bestPlan (weekK 20) is (14 ∷ []))
+    ∷ (choose (weekK 20) is (14 ∷ 0 ∷ 0 ∷ 0 ∷ 0 ∷ []))
     -- L
-    ∷ (bestPlan (week 0 10 []) is (0 ∷ 0 ∷ []))
+    ∷ (choose (week 0 10 []) is (0 ∷ 0 ∷ 0 ∷ 0 ∷ []))
     -- What A to L leave open, worked out from 01's text: a late batch goes on, and the one behind it is left with 2 minutes; a
     -- batch that is set aside; idle minutes between two batches and after them; and an entry that follows an idle minute
     ∷ (run weekLate (1 ∷ 1 ∷ []) is (2 ∷ 0 ∷ 1 ∷ 3 ∷ 2 ∷ 2 ∷ []))
@@ -165,7 +164,7 @@ table =
     ∷ (run weekGap (1 ∷ 1 ∷ []) is (2 ∷ 3 ∷ 1 ∷ 2 ∷ 1 ∷ 5 ∷ []))
     ∷ ((changes (1 ∷ 0 ∷ 1 ∷ 1 ∷ 0 ∷ []) ∷ []) is (2 ∷ []))
     -- a set-aside batch asks nothing, though it arrives after the bound
-    ∷ (bestPlan weekAside is (0 ∷ 10 ∷ 1 ∷ 2 ∷ 2 ∷ []))
+    ∷ (choose weekAside is (0 ∷ 0 ∷ 0 ∷ 10 ∷ 1 ∷ 2 ∷ 2 ∷ []))
     ∷ (check weekAside (1 ∷ 2 ∷ 2 ∷ []) is (0 ∷ 0 ∷ 0 ∷ 10 ∷ 2 ∷ 4 ∷ 4 ∷ 4 ∷ 4 ∷ 10 ∷ []))
     -- no choice is not a total of 0: H and I
     ∷ ((score (weekJobs (weekG (recipe 11 1 ∷ []))) 10 ∷ []) is (0 ∷ []))

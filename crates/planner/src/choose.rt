@@ -8,9 +8,11 @@ use week::record::Week;
 use week::refusal::Refusal;
 ghost use mathlib.Core.Path.{_≡_};
 ghost use mathlib.Core.Logic.{_↔_};
+ghost use Prim.Native.Nat.{_≤_};
 ghost use lib.ListN.{length};
 ghost use Rattle.week.specs.Fault.{WellFormed};
-ghost use Rattle.planner.specs.Choose.{chooseAnswer, tableAfter, refusedPlan, BestPlan, NoPlan, LongEnough};
+ghost use Rattle.planner.specs.Choose.{widthOf, fillFault, chooseAnswer, tableAfter, refusedPlan};
+ghost use Rattle.planner.specs.Choose.{Fills, PicksTable, BestPlan, NoPlan, LongEnough};
 
 // Choose's answer: for each batch, in list order, its recipe, and the total; or the refusal.
 pub struct Plan {
@@ -31,23 +33,43 @@ impl Plan {
     }
 }
 
-// The answer and every byte of the table at exit, on every input; then demand 3, which follows from the answer.
+// The entries of a row of the table: the minutes from opening to closing, both counted.
+fn row_width(week: Week) -> usize
+    requires { ⌜ week .opening ≤ week .closing ⌝ }
+    ensures { λ r. ⌜ r ≡ widthOf week ⌝ }
+{
+    ((week.closing - week.opening) as usize) + 1
+}
+
+// What refuses to fill a table of `size` bytes: refusals 1 to 10, then 11.
+fn fill_fault(week: Week, size: usize) -> Refusal
+    ensures { λ r. ⌜ r ≡ fillFault week size ⌝ }
+{
+    let fault = list_fault(week);
+    if fault.number != 0 {
+        return fault;
+    }
+    if size < week.count * row_width(week) {
+        return Refusal::at(11, 0, 0);
+    }
+    Refusal::none()
+}
+
+// The answer and every byte of the table at exit, on every input. Then what follows from these: document 01's sentence on the
+// table, and demand 3.
 pub fn choose(week: Week, table: &mut [u8]) -> Plan
     ensures answer { λ r. ⌜ r ≡ chooseAnswer week (length (now (table .entry))) ⌝ }
     ensures table { λ _. ⌜ now (table .exit) ≡ tableAfter week (now (table .entry)) ⌝ }
+    ensures picks { λ r. ⌜ (Fills r → PicksTable week (now (table .entry)) (now (table .exit))) ⌝ }
     ensures best { λ r. ⌜ (r .refusal .number ≡ 0 → BestPlan week r) ⌝ }
     ensures none { λ r. ⌜ (r .refusal .number ≡ 14)
         ↔ (WellFormed week × LongEnough week (length (now (table .entry))) × NoPlan week) ⌝ }
 {
-    let fault = list_fault(week);
+    let fault = fill_fault(week, table.len());
     if fault.number != 0 {
         return Plan::refused(fault);
     }
-    let n = week.count;
-    let width = ((week.closing - week.opening) as usize) + 1;
-    if table.len() < n * width {
-        return Plan::refused(Refusal::at(11, 0, 0));
-    }
+    let width = row_width(week);
     let jobs = jobs_of(week);
     fill(jobs, week.opening, width, &mut *table);
     let best = read_off(jobs, week.opening, width, week.closing, table);
@@ -57,7 +79,7 @@ pub fn choose(week: Week, table: &mut [u8]) -> Plan
     let choice = best.choice;
     Plan {
         refusal: Refusal::none(),
-        total: total(jobs, &choice[0..n]),
+        total: total(jobs, &choice),
         choice,
     }
 }

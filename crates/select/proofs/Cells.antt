@@ -12,10 +12,10 @@ use Rattle.jobs.specs.declared.model.Job.{Job}
 use Rattle.jobs.specs.Model.{versionOf}
 use Rattle.jobs.specs.Rule.{fits, nextBound}
 use Rattle.jobs.specs.Choice.{total}
-use Rattle.jobs.specs.Best.{greater, best, lastVersion, scoreBy, score}
+use Rattle.jobs.specs.Best.{greater, best, lastVersion}
 use Rattle.jobs.proofs.Rules.{bound-in}
 use Rattle.jobs.proofs.Programme.{within, step, among}
-use Rattle.select.specs.Row.{raised, offered, Scored}
+use Rattle.select.specs.Row.{scoreBy, score, raised, offered, Scored}
 
 -- the best choice of the jobs js with version k of job j after them, and with one of its first k versions
 abbrev bestWith : Job → List Job → ℕ → ℕ → Option (List ℕ)

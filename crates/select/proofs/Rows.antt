@@ -16,7 +16,7 @@ use Rattle.select.specs.Row.{offered, Offered, OpenedRow, Scored, Filled
 use Rattle.select.proofs.Patches.{patched-all}
 use Rattle.select.proofs.Cells.{bestOf, Cell, cell-step}
 
--- after k versions, in a row of w entries that opened with scores₀: whatever the jobs js of which the row before has the scores
+-- after k versions, in a row of w entries that opened with scores₀; js are any jobs whose scores the row before has
 pub record Row (j : Job) (t w : ℕ) (before scores₀ scores picks : List ℕ) (k : ℕ) : Type 0 where
   pub most : k ≤ j .count
   pub size : (length scores ≡ length scores₀) × (length picks ≡ w)

@@ -9,10 +9,11 @@ use lib.ListN.{length, getD, take, drop, replicate, length-take, length-drop, le
 use Rattle.jobs.specs.declared.model.Job.{Job}
 use Rattle.jobs.specs.declared.model.JobList.{JobList}
 use Rattle.jobs.specs.Model.{maxJobs, max32, noJob, backward, tabulate}
-use Rattle.jobs.specs.Best.{best, pick, score}
+use Rattle.jobs.specs.Best.{best, pick}
 use Rattle.jobs.proofs.Places.{length-backward}
-use Rattle.select.specs.Row.{rowLength, Low, Scored, FilledRow}
-use Rattle.select.specs.Table.{filled, Tabled}
+use Rattle.select.specs.Row.{rowLength, score, Low, Scored, FilledRow}
+use Rattle.select.specs.Table.{filled}
+use Rattle.select.specs.Contract.{Fillable}
 use Rattle.select.proofs.Picks.{length-filled, filled-none, filled-more}
 
 -- of no jobs there is one choice, whose total is 0
@@ -26,8 +27,8 @@ replicate-low (suc n) s zero = omega arith
 replicate-low (suc n) s (suc m) = replicate-low n s m
 
 -- the row of job i lies in the table
-pub row-inside : {list : JobList} {t w size : ℕ} → Tabled list t w size → (i : ℕ) → i < list .count → i * w + w ≤ size
-row-inside {w = w} tabled i more = omega (arith, mul-le-mul-right w more)
+pub row-inside : {list : JobList} {t w size : ℕ} → Fillable list t w size → (i : ℕ) → i < list .count → i * w + w ≤ size
+row-inside {w = w} fillable i more = omega (arith, mul-le-mul-right w more)
 
 -- after i of n jobs, in a table that was table₀
 pub record Table (jobs : List Job) (n t w : ℕ) (table₀ table before scores : List ℕ) (i : ℕ) : Type 0 where

@@ -20,7 +20,8 @@ use Rattle.jobs.proofs.Demand.{best-some}
 use Rattle.jobs.proofs.Parts.{Parts, pick-none, pick-some}
 use Rattle.jobs.proofs.Arrays.{length-choice}
 use Rattle.select.specs.declared.choice.BestChoice.{BestChoice}
-use Rattle.select.specs.Table.{entryAt, Held, bestChoice}
+use Rattle.select.specs.Table.{entryAt}
+use Rattle.select.specs.Contract.{Readable, bestChoice}
 use Rattle.select.proofs.Entries.{Entry, entry-in, table-entry}
 
 -- the answer, where a choice of the first i jobs goes before the entries of the array from i on
@@ -40,7 +41,7 @@ stored array at k ks inside =
 
 -- before job i: the answer is the best choice of the first i jobs under the bound x, completed by what the array holds
 pub record Traceback (list : JobList) (t w close : ℕ) (table array : List ℕ) (x i : ℕ) : Type 0 where
-  pub held : Held list t w close table
+  pub readable : Readable list t w close table
   pub within : i ≤ list .count
   pub from : t ≤ x
   pub to : x ≤ close
@@ -48,13 +49,13 @@ pub record Traceback (list : JobList) (t w close : ℕ) (table array : List ℕ)
   pub answer : bestChoice (best (jobsOf list) close) ≡ completed array i (best (backward noJob (list .jobs) i) x)
 
 -- at the start nothing is stored
-pub trace-start : {list : JobList} {t w close : ℕ} {table : List ℕ} → Held list t w close table →
+pub trace-start : {list : JobList} {t w close : ℕ} {table : List ℕ} → Readable list t w close table →
     Traceback list t w close table (replicate maxJobs 0) close (list .count)
-trace-start {list} {close = close} held =
+trace-start {list} {close = close} readable =
     record {
-      held = held;
+      readable = readable;
       within = omega arith;
-      from = held .opened;
+      from = readable .opened;
       to = omega arith;
       size = refl;
       answer = by-best (best (jobsOf list) close) refl;
@@ -64,7 +65,7 @@ trace-start {list} {close = close} held =
     by-best none e = refl
     by-best (some ks) e =
         let size : length ks ≡ list .count = length-choice list ks (best-some (jobsOf list) close ks e .valid) in
-        rw (size, drop-replicate {A = ℕ} (list .count) maxJobs 0 (held .tabled .most))
+        rw (size, drop-replicate {A = ℕ} (list .count) maxJobs 0 (readable .fillable .most))
 
 module _
     {list : JobList} {t w close : ℕ} {table array : List ℕ} {x i : ℕ}
@@ -78,10 +79,10 @@ module _
     -- one job, in place i - 1 of the array, and its pick
     module _ (more : 0 < i) where
       entry : Entry list t w i x
-      entry = record { first = more; last = h .within; from = h .from; to = omega (arith, h .to, h .held .inside) }
+      entry = record { first = more; last = h .within; from = h .from; to = omega (arith, h .to, h .readable .inside) }
 
       pub trace-index : entryAt t w i x < length table
-      trace-index = omega (arith, entry-in entry, h .held .tabled .long)
+      trace-index = omega (arith, entry-in entry, h .readable .fillable .long)
 
       below : i - 1 < list .count
       below = omega (arith, h .within)
@@ -102,7 +103,7 @@ module _
       here = subst (λ (n : ℕ). Traceback list t w close table array x n) position h
 
       picked : k ≡ pick (j ∷ before) x
-      picked = table-entry entry table (h .held .rows) ∙ ap (λ (n : ℕ). pick (backward noJob (list .jobs) n) x) position
+      picked = table-entry entry table (h .readable .rows) ∙ ap (λ (n : ℕ). pick (backward noJob (list .jobs) n) x) position
 
       -- a pick of 0: no choice exists
       pub trace-none : k ≡ 0 → bestChoice none ≡ bestChoice (best (jobsOf list) close)
@@ -114,7 +115,7 @@ module _
         parts = pick-some j before x picked other
 
         pub trace-named : (1 ≤ k) × (k ≤ maxVersions)
-        trace-named = (parts .2 .low, omega (arith, parts .2 .high, h .held .tabled .few (i - 1) below))
+        trace-named = (parts .2 .low, omega (arith, parts .2 .high, h .readable .fillable .few (i - 1) below))
 
         module _ {v : Version} (named : v ≡ versionOf j k) where
           pub trace-fits : fits j v x ≡ true
@@ -126,9 +127,9 @@ module _
           unfolding nextBound
           trace-step {s} kept =
               let next : nextBound j v x ≡ s .start = ap (λ (q : Stretch). q .start) (sym kept) in
-              let bound = bound-in j v x t (h .held .tabled .ready (i - 1) below) (h .from) trace-fits in
+              let bound = bound-in j v x t (h .readable .fillable .ready (i - 1) below) (h .from) trace-fits in
               record {
-                held = h .held;
+                readable = h .readable;
                 within = omega (arith, below);
                 from = omega (arith, bound .0);
                 to = omega (arith, bound .1, h .to);
@@ -140,6 +141,6 @@ module _
                       ← next,
                       named,
                       parts .2 .rest,
-                      stored array (i - 1) k (parts .0) (omega (arith, below, h .size, h .held .tabled .most)),
+                      stored array (i - 1) k (parts .0) (omega (arith, below, h .size, h .readable .fillable .most)),
                     );
               }

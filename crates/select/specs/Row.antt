@@ -1,19 +1,29 @@
 -- One row of the programme, as numbers: what each of its functions leaves. Entry m of a row is for the close t + m.
-use Prim.Native.Nat.{ℕ, _+_, _-_, _≤_, _<_}
+use Prim.Native.Nat.{ℕ, suc, _+_, _-_, _≤_, _<_}
 use mathlib.Core.Path.{_≡_}
 use mathlib.Core.Bool.{cond}
 use mathlib.Core.List.{List, _∷_}
+use mathlib.Core.Option.{Option, none, some}
 use lib.ListN.{length, getD}
 use lib.Dec.{ltb, eqb}
 use Rattle.jobs.specs.declared.model.Version.{Version}
 use Rattle.jobs.specs.declared.model.Job.{Job}
 use Rattle.jobs.specs.Model.{maxSpan, max32, tabulate}
 use Rattle.jobs.specs.Rule.{fits, nextBound}
-use Rattle.jobs.specs.Best.{pick, score}
+use Rattle.jobs.specs.Choice.{total}
+use Rattle.jobs.specs.Best.{best, pick}
 
 -- the entries of a row for the longest week
 abbrev pub rowLength : ℕ
 rowLength = maxSpan + 1
+
+-- 0 if no choice exists, else one more than the total: no choice is not a total of 0
+abbrev pub scoreBy : (List ℕ → ℕ) → Option (List ℕ) → ℕ
+scoreBy v none = 0
+scoreBy v (some c) = suc (v c)
+
+abbrev pub score : List Job → ℕ → ℕ
+score js x = scoreBy (total js) (best js x)
 
 -- a score to which a worth can be added in 64 bits
 abbrev pub Low : ℕ → Type 0
@@ -23,7 +33,7 @@ Low s = s + max32 < 18446744073709551616
 abbrev pub raised : ℕ → ℕ → ℕ
 raised s worth = cond (eqb s 0) 0 (s + worth)
 
--- what a version offers at entry m that starts `cost` minutes before it
+-- what a version offers at entry m if it starts `cost` minutes earlier
 abbrev pub shifted : List ℕ → ℕ → ℕ → ℕ → ℕ
 shifted before cost worth m = raised (getD before (m - cost) 0) worth
 
@@ -42,7 +52,8 @@ pub record Taken (offer : ℕ → ℕ) (k a b : ℕ) (scores picks scores′ pic
   pub scored : Patched (λ m. cond (ltb (getD scores m 0) (offer m)) (offer m) (getD scores m 0)) a b scores scores′
   pub picked : Patched (λ m. cond (ltb (getD scores m 0) (offer m)) k (getD picks m 0)) a b picks picks′
 
--- the same at every entry of the row, and the scores stay below a bound that lies a worth above the row before
+-- the same at every entry of the row; and if no score before is above b, and none here above b plus the greatest worth, none
+-- gets above it
 pub record Offered (offer : ℕ → ℕ) (k : ℕ) (before scores picks scores′ picks′ : List ℕ) : Type 0 where
   pub taken : Taken offer k 0 (length picks) scores picks scores′ picks′
   pub low : (b : ℕ) → ((m : ℕ) → getD before m 0 ≤ b) → ((m : ℕ) → getD scores m 0 ≤ b + max32) →

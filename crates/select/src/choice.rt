@@ -3,7 +3,7 @@ use jobs::model::JobList;
 ghost use mathlib.Core.Path.{_≡_};
 ghost use Rattle.jobs.specs.Model.{jobsOf};
 ghost use Rattle.jobs.specs.Best.{best};
-ghost use Rattle.select.specs.Table.{Held, bestChoice};
+ghost use Rattle.select.specs.Contract.{Readable, bestChoice};
 
 // The best choice, in list order; all 0 where there is none.
 pub struct BestChoice {
@@ -13,7 +13,7 @@ pub struct BestChoice {
 
 // From the last job to the first: each pick is looked up under the bound that the jobs after it leave.
 pub fn read_off(list: JobList, opening: u16, width: usize, close: u16, table: &[u8]) -> BestChoice
-    requires { ⌜ Held list opening width close (now table) ⌝ }
+    requires { ⌜ Readable list opening width close (now table) ⌝ }
     ensures { λ r. ⌜ r ≡ bestChoice (best (jobsOf list) close) ⌝ }
 {
     let none = [0u8; JobList::MAX_JOBS];

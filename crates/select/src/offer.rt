@@ -20,10 +20,10 @@ fn raised(score: u64, worth: u32) -> u64
     }
 }
 
-// Version k over entries first to last, where it starts `cost` minutes before each.
+// Version k at the entries from `first` up to `end`, not counted, where it starts `cost` minutes before each.
 fn shift(
     first: usize,
-    last: usize,
+    end: usize,
     cost: usize,
     worth: u32,
     k: u8,
@@ -31,12 +31,12 @@ fn shift(
     scores: &mut [u64],
     picks: &mut [u8],
 )
-    requires { ⌜ (cost ≤ first) × (last ≤ length (now before)) × (last ≤ length (now scores)) × (last ≤ length (now picks)) ⌝ }
+    requires { ⌜ (cost ≤ first) × (end ≤ length (now before)) × (end ≤ length (now scores)) × (end ≤ length (now picks)) ⌝ }
     requires { ⌜ ((m : ℕ) → Low (getD (now before) m 0)) ⌝ }
-    ensures { λ _. ⌜ Taken (shifted (now (before .entry)) cost worth) k first last
+    ensures { λ _. ⌜ Taken (shifted (now (before .entry)) cost worth) k first end
         (now (scores .entry)) (now (picks .entry)) (now (scores .exit)) (now (picks .exit)) ⌝ }
 {
-    for m in first..last {
+    for m in first..end {
         let s = raised(before[m - cost], worth);
         if scores[m] < s {
             scores[m] = s;
@@ -88,14 +88,14 @@ pub(crate) fn offer(
         return;
     }
     let first = earliest - open;
-    let last = if due - open < width {
+    let end = if due - open < width {
         due - open
     } else {
         width
     };
     shift(
         first,
-        last,
+        end,
         cost,
         v.worth,
         k,
@@ -103,8 +103,8 @@ pub(crate) fn offer(
         &mut *scores,
         &mut *picks,
     );
-    if last < width {
-        let score = raised(before[last - cost], v.worth);
-        level(last, score, k, scores, picks);
+    if end < width {
+        let score = raised(before[end - cost], v.worth);
+        level(end, score, k, scores, picks);
     }
 }

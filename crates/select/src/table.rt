@@ -4,7 +4,8 @@ use jobs::model::JobList;
 ghost use mathlib.Core.Path.{_≡_};
 ghost use lib.ListN.{length, replicate};
 ghost use Rattle.jobs.specs.Model.{jobsOf};
-ghost use Rattle.select.specs.Table.{Tabled, filled};
+ghost use Rattle.select.specs.Table.{filled};
+ghost use Rattle.select.specs.Contract.{Fillable};
 ghost use Rattle.select.specs.Row.{rowLength};
 
 // The entries of a row for the longest week.
@@ -19,7 +20,7 @@ fn row_of(score: u64) -> [u64; ROW]
 
 // Document 01, "The picks table". A row has `width` entries, one for each close from the opening on.
 pub fn fill(list: JobList, opening: u16, width: usize, table: &mut [u8])
-    requires { ⌜ Tabled list opening width (length (now table)) ⌝ }
+    requires { ⌜ Fillable list opening width (length (now table)) ⌝ }
     ensures { λ _. ⌜ now (table .exit) ≡ filled (jobsOf list) opening width (now (table .entry)) ⌝ }
 {
     let mut before = row_of(0);

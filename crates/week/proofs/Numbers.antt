@@ -1,40 +1,35 @@
--- The number of the first that refuses is at most m where each number is; the refusals of a list go up to 10.
-use Prim.Native.Nat.{ℕ, zero, suc, _≤_}
-use native.Mathlib.Omega.{arith}
+-- A number that none of some refusals has, the first of them that refuses has not either; so no list is refused with 14.
+use Prim.Native.Nat.{ℕ, zero, suc}
 use mathlib.Core.Path.{_≡_}
 use mathlib.Core.Bool.{Bool, true, false}
-use lib.Dec.{leb, eqb}
-use borrow.Author.Tests.{leb-true}
+use lib.Dec.{eqb}
 use Rattle.jobs.proofs.Cases.{cond-both}
 use Rattle.week.specs.declared.record.Week.{Week}
 use Rattle.week.specs.declared.refusal.Refusal.{Refusal}
-use Rattle.week.specs.Refusal.{accepted, refusedIf, orElse, firstOf, first}
+use Rattle.week.specs.Refusal.{refusedIf, orElse, firstOf, first}
 use Rattle.week.specs.Fault.{weekFault, costFault, worthFault, repeatFault, orderFault, batchFault, listFault}
 
--- the premise of `refusedIf-within` is a test, so that it computes at numerals
-module _ (m : ℕ) where
-  abbrev pub Within : Refusal → Type 0
-  Within r = r .number ≤ m
+-- n is the number, which is not 0; the premises are tests, so that they compute at numerals
+module _ (n : ℕ) where
+  abbrev pub Other : Refusal → Type 0
+  Other r = eqb (r .number) n ≡ false
 
-  pub accepted-within : Within accepted
-  accepted-within = omega arith
-
-  pub or-within : (a b : Refusal) → Within a → Within b → Within (orElse a b)
+  pub or-other : (a b : Refusal) → Other a → Other b → Other (orElse a b)
   unfolding orElse
-  or-within a b p q = cond-both Within (eqb (a .number) 0) q p
+  or-other a b p q = cond-both Other (eqb (a .number) 0) q p
 
-  pub refusedIf-within : (number place recipe : ℕ) (holds : Bool) → leb number m ≡ true →
-      Within (refusedIf number place recipe holds)
+  pub refusedIf-other : (number place recipe : ℕ) (holds : Bool) → eqb number n ≡ false → eqb 0 n ≡ false →
+      Other (refusedIf number place recipe holds)
   unfolding refusedIf
-  refusedIf-within number place recipe true l = leb-true number m l
-  refusedIf-within number place recipe false l = omega arith
+  refusedIf-other number place recipe true other above = other
+  refusedIf-other number place recipe false other above = above
 
-  first-within : (f : ℕ → Refusal) → ((i : ℕ) → Within (f i)) → (i n : ℕ) → Within (first f i n)
+  first-other : (f : ℕ → Refusal) → ((i : ℕ) → Other (f i)) → eqb 0 n ≡ false → (i m : ℕ) → Other (first f i m)
   unfolding first
-  first-within f each i zero = omega arith
-  first-within f each i (suc n) = or-within (f i) (first f (suc i) n) (each i) (first-within f each (suc i) n)
+  first-other f each above i zero = above
+  first-other f each above i (suc m) = or-other (f i) (first f (suc i) m) (each i) (first-other f each above (suc i) m)
 
 -- 1 to 3, and 4 to 10 of each batch
-pub list-number : (w : Week) → listFault w .number ≤ 10
+pub list-other : (w : Week) → Other 14 (listFault w)
 unfolding listFault weekFault batchFault costFault worthFault repeatFault orderFault firstOf
-list-number w = search (or-within 10, first-within 10, refusedIf-within 10, accepted-within 10) depth 20
+list-other w = search (or-other 14, first-other 14, refusedIf-other 14) depth 20

@@ -52,14 +52,14 @@ sub-first c = search needs
 sub-if3 : tie.Need-sub-if3
 sub-if3 c = search needs
 
-sub-last : tie.Need-sub-last
-sub-last c = search needs
+sub-end : tie.Need-sub-end
+sub-end c = search needs
 
 shift-requires-2 : tie.Need-shift-requires-2
 shift-requires-2 c κs =
     let l = c .before .before in
     let start = l .before .before .before .before .before .before .before .before .before .before .before in
-    let low : l .if3 .last ≤ length (start .args .picks .now) =
+    let low : l .if3 .end ≤ length (start .args .picks .now) =
     ⊎-elim (λ w. omega (arith, w)) (λ w. omega (arith, w)) (l .if3 .came) in
     (omega (arith, low, start .pre), start .pre .1 .1)
 
@@ -146,7 +146,7 @@ offer-spec =
     returns-2
     sub-first
     sub-if3
-    sub-last
+    sub-end
     shift-requires-2
     sub-raised
     mul-raised

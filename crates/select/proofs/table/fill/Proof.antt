@@ -62,9 +62,9 @@ part-fill-row-end c =
 fill-row-requires : tie.Need-fill-row-requires Inv-loop μ-loop
 fill-row-requires c κs =
     let l = c .before .before .before .before .before in
-    let tabled = l .before .before .before .before .before .pre in
+    let fillable = l .before .before .before .before .before .pre in
     let more : l .loop .i < l .before .before .before .before .before .args .list .count = omega arith in
-    ((tabled .few _ more, tabled .ready _ more), (simp length-take (omega arith), table-low (l .loop .inv) (tabled .most) more))
+    ((fillable .few _ more, fillable .ready _ more), (simp length-take (omega arith), table-low (l .loop .inv) (fillable .most) more))
 
 add-i : tie.Need-add-i Inv-loop μ-loop
 add-i c = search needs
