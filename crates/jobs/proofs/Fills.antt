@@ -1,13 +1,14 @@
--- An array that a loop fills, one store a turn, with the entries of another: in any order, and from the front by a function.
-use Prim.Native.Nat.{ℕ, _+_, _≤_, _<_}
+-- An array that a loop fills, one store a turn, with the entries of another: in any order, and from the front by a function, the
+-- whole of it or as far as a count.
+use Prim.Native.Nat.{ℕ, _+_, _-_, _≤_, _<_}
 use native.Mathlib.Decide.{ℕ-discrete}
 use native.Mathlib.Omega.{arith}
-use mathlib.Core.Path.{_≡_, sym, _∙_}
+use mathlib.Core.Path.{_≡_, sym, ap, _∙_}
 use mathlib.Core.List.{List}
-use lib.ListN.{length, getD, set, length-set}
+use lib.ListN.{length, getD, set, replicate, length-set, length-replicate}
 use lib.Seq.{getD-set-same, getD-set-other, ext-getD}
-use Rattle.jobs.specs.Model.{tabulate}
-use Rattle.jobs.proofs.Places.{length-tabulate, tabulate-at}
+use Rattle.jobs.specs.Model.{tabulate, padded}
+use Rattle.jobs.proofs.Places.{length-tabulate, tabulate-at, tabulate-more, padded-set}
 
 module _ {A : Type 0} where
   -- what holds of the entry that is stored at i, and of every other, holds of each
@@ -64,3 +65,41 @@ module _ {A : Type 0} where
     pub tabulated-end : m ≤ i → array ≡ tabulate f 0 m
     tabulated-end over =
         filled-all d (tabulate f 0 m) (λ k. k < i) array (λ k l. omega (arith, length-tabulate f 0 m)) (h .filled)
+
+  -- the array, of m, has f below i and d from there on; it is to have f below n
+  pub record Padding (f : ℕ → A) (m : ℕ) (d : A) (n i : ℕ) (array : List A) : Type 0 where
+    pub most : n ≤ m
+    pub within : i ≤ n
+    pub size : length array ≡ m
+    pub exact : array ≡ padded m d (tabulate f 0 i)
+
+  pub padding-start : (f : ℕ → A) (m : ℕ) (d : A) (n : ℕ) → n ≤ m → Padding f m d n 0 (replicate m d)
+  padding-start f m d n most =
+      let all : m ≡ m - 0 = omega arith in
+      record {
+        most = most;
+        within = omega arith;
+        size = length-replicate m d;
+        exact = ap (λ (k : ℕ). replicate k d) all;
+      }
+
+  module _ {f : ℕ → A} {m : ℕ} {d : A} {n i : ℕ} {array : List A} (h : Padding f m d n i array) where
+    pub padding-step : i < n → {a : A} → a ≡ f i → Padding f m d n (i + 1) (set array i a)
+    padding-step more {a} e =
+        record {
+          most = h .most;
+          within = omega arith;
+          size = length-set array i a ∙ h .size;
+          exact =
+              rw (
+                h .exact,
+                padded-set m d (tabulate f 0 i) i a (length-tabulate f 0 i) (omega (arith, h .most)),
+                tabulate-more,
+                e,
+              );
+        }
+
+    pub padding-end : n ≤ i → array ≡ padded m d (tabulate f 0 n)
+    padding-end over =
+        let all : i ≡ n = omega (arith, h .within) in
+        h .exact ∙ ap (λ (k : ℕ). padded m d (tabulate f 0 k)) all

@@ -1,5 +1,6 @@
 pub mod Places
 pub mod Fills
+pub mod Front
 pub mod Rules
 pub mod Named
 pub mod Arrays

@@ -10,7 +10,7 @@ use Rattle.jobs.specs.declared.model.Job.{Job}
 use Rattle.jobs.specs.declared.rule.Stretch.{Stretch}
 use Rattle.jobs.specs.Model.{maxJobs, noJob, versionOf, backward, placed}
 use Rattle.jobs.specs.Rule.{stretchOf, fits, nextBound, failing, stretches}
-use Rattle.jobs.specs.Contract.{noStretch, stretched}
+use Rattle.jobs.specs.Contract.{noStretch, stretchesOf, stretched}
 use Rattle.jobs.proofs.Places.{length-backward, length-placed, placed-beyond, backward-placed, replicate-at}
 use Rattle.jobs.proofs.Fills.{Filled, filled-step, filled-all}
 use Rattle.jobs.proofs.Rules.{length-stretches, stretched-meets, stretched-fails}
@@ -22,7 +22,7 @@ module _ (jobs : List Job) (choice : List ℕ) (close n : ℕ) where
   all = stretches (backward noJob jobs n) close (backward 0 choice n)
 
   abbrev whole : List Stretch
-  whole = placed maxJobs noStretch all
+  whole = stretchesOf (backward noJob jobs n) close (backward 0 choice n)
 
   -- before job i: what the rule says of the whole is what it says of the first i jobs under the bound
   pub record Pass (array : List Stretch) (bound i : ℕ) : Type 0 where
@@ -37,6 +37,9 @@ module _ (jobs : List Job) (choice : List ℕ) (close n : ℕ) where
       let same = length-backward noJob jobs n in
       length-stretches (backward noJob jobs n) close (backward 0 choice n) (length-backward 0 choice n ∙ sym same) ∙ same
 
+  pub placed-stretches : backward noStretch whole n ≡ all
+  placed-stretches = subst (λ (i : ℕ). backward noStretch whole i ≡ all) length-all (backward-placed maxJobs noStretch all)
+
   length-whole : n ≤ maxJobs → length whole ≡ maxJobs
   length-whole most = length-placed maxJobs noStretch all (omega (arith, length-all))
 
@@ -46,7 +49,7 @@ module _ (jobs : List Job) (choice : List ℕ) (close n : ℕ) where
       record {
         low = omega arith;
         fails = refl;
-        rest = subst (λ (i : ℕ). backward noStretch whole i ≡ all) length-all (backward-placed maxJobs noStretch all);
+        rest = placed-stretches;
         filled = record {
           size = sym (length-whole most);
           done = λ k from. replicate-at maxJobs noStretch k ∙ sym (placed-beyond maxJobs noStretch all k (omega (arith, length-all)));

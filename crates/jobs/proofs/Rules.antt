@@ -10,10 +10,10 @@ use lib.Dec.{eqb·suc-zero}
 use borrow.Author.Tests.{leb-true}
 use Rattle.jobs.specs.declared.model.Version.{Version}
 use Rattle.jobs.specs.declared.model.Job.{Job}
-use Rattle.jobs.specs.Model.{maxJobs, versionOf, placed}
+use Rattle.jobs.specs.Model.{maxJobs, versionOf}
 use Rattle.jobs.specs.Rule.{endOf, stretchOf, fits, nextBound, meets, failing, stretches}
 use Rattle.jobs.specs.Choice.{Valid}
-use Rattle.jobs.specs.Contract.{noStretch, stretched}
+use Rattle.jobs.specs.Contract.{noStretch, stretchesOf, stretched}
 
 -- a version that is read and fits: its minutes lie between the job's ready minute and the end of its stretch
 pub fits-read : (j : Job) (v : Version) (x : ℕ) → fits j v x ≡ true → v .read ≡ true → j .ready + v .cost ≤ endOf j x
@@ -28,6 +28,23 @@ bound-read j v x r = rw r
 pub bound-aside : (j : Job) (v : Version) (x : ℕ) → v .read ≡ false → nextBound j v x ≡ x
 unfolding nextBound stretchOf
 bound-aside j v x r = rw r
+
+-- where its stretch ends, by whether it is read
+pub end-read : (j : Job) (v : Version) (x : ℕ) → v .read ≡ true → stretchOf j v x .end ≡ endOf j x
+unfolding stretchOf
+end-read j v x r = rw r
+
+end-aside : (j : Job) (v : Version) (x : ℕ) → v .read ≡ false → stretchOf j v x .end ≡ x
+unfolding stretchOf
+end-aside j v x r = rw r
+
+-- it ends between the bound that it leaves and its own
+pub end-in : (j : Job) (v : Version) (x : ℕ) → (nextBound j v x ≤ stretchOf j v x .end) × (stretchOf j v x .end ≤ x)
+end-in j v x = by-read (v .read) refl
+  where
+    by-read : (q : Bool) → v .read ≡ q → (nextBound j v x ≤ stretchOf j v x .end) × (stretchOf j v x .end ≤ x)
+    by-read true r = omega (arith, end-read j v x r, bound-read j v x r)
+    by-read false r = omega (arith, end-aside j v x r, bound-aside j v x r)
 
 -- a job that is ready at t or later and fits under a bound of t or later leaves a bound from t to that one
 pub bound-in : (j : Job) (v : Version) (x t : ℕ) → t ≤ j .ready → t ≤ x → fits j v x ≡ true → (t ≤ nextBound j v x) × (nextBound j v x ≤ x)
@@ -62,7 +79,7 @@ length-stretches (j ∷ js) x (k ∷ ks) h = ap suc (length-stretches js (nextBo
 
 -- the rule's answer where it is met, and where position n fails
 pub stretched-meets : (js : List Job) (x : ℕ) (ks : List ℕ) → failing js x ks ≡ 0 →
-    stretched js x ks ≡ record { failing = 0; stretches = placed maxJobs noStretch (stretches js x ks) }
+    stretched js x ks ≡ record { failing = 0; stretches = stretchesOf js x ks }
 unfolding stretched
 stretched-meets js x ks h = rw h
 

@@ -8,7 +8,7 @@ use Rattle.jobs.specs.declared.model.Job.{Job}
 use Rattle.jobs.specs.declared.model.JobList.{JobList}
 use Rattle.jobs.specs.declared.rule.Stretch.{Stretch}
 use Rattle.jobs.specs.declared.rule.Stretched.{Stretched}
-use Rattle.jobs.specs.Model.{maxJobs, maxVersions, max32, noJob, placed, jobsOf, chosen}
+use Rattle.jobs.specs.Model.{maxJobs, maxVersions, max32, noJob, atPosition, placed, jobsOf, chosen}
 use Rattle.jobs.specs.Rule.{failing, stretches}
 use Rattle.jobs.specs.Choice.{total}
 
@@ -28,10 +28,18 @@ pub record Answerable (list : JobList) (choice : List ℕ) : Type 0 where
 abbrev pub noStretch : Stretch
 noStretch = record { start = 0; end = 0 }
 
--- the position where the rule fails, or 0 and every stretch in its place
+-- the stretches of a choice in list order, each in its place
+abbrev pub stretchesOf : List Job → ℕ → List ℕ → List Stretch
+stretchesOf js x ks = placed maxJobs noStretch (stretches js x ks)
+
+-- the stretch that the rule gives position i, the close being x
+abbrev pub stretchAt : JobList → List ℕ → ℕ → ℕ → Stretch
+stretchAt list choice x i = atPosition noStretch (stretchesOf (jobsOf list) x (chosen list choice)) i
+
+-- the position where the rule fails, or 0 and every stretch
 unfoldable pub stretched : List Job → ℕ → List ℕ → Stretched
 stretched js x ks =
     record {
       failing = failing js x ks;
-      stretches = cond (eqb (failing js x ks) 0) (placed maxJobs noStretch (stretches js x ks)) (replicate maxJobs noStretch);
+      stretches = cond (eqb (failing js x ks) 0) (stretchesOf js x ks) (replicate maxJobs noStretch);
     }

@@ -17,6 +17,10 @@ maxSpan = 2400
 abbrev pub maxVersions : ℕ
 maxVersions = 10
 
+-- the greatest number of 16 bits: of a minute
+abbrev pub max16 : ℕ
+max16 = 65535
+
 -- the greatest number of 32 bits: of a worth, and of a total that is answered
 abbrev pub max32 : ℕ
 max32 = 4294967295
@@ -28,12 +32,12 @@ noVersion = record { read = false; cost = 0; worth = 0 }
 abbrev pub noJob : Job
 noJob = record { ready = 0; due = 0; count = 0; versions = [] }
 
--- 01: "recipes numbered from 1"
-abbrev pub versionOf : Job → ℕ → Version
-versionOf j zero = noVersion
-versionOf j (suc k) = getD (j .versions) k noVersion
-
 module _ {A : Type 0} where
+  -- the entry of an array at a position, counted from 1; d where there is none
+  abbrev pub atPosition : A → List A → ℕ → A
+  atPosition d xs zero = d
+  atPosition d xs (suc i) = getD xs i d
+
   -- the first i of an array, the last of them first
   abbrev pub backward : A → List A → ℕ → List A
   backward d xs zero = []
@@ -49,9 +53,16 @@ module _ {A : Type 0} where
   tabulate f a zero = []
   tabulate f a (suc m) = f a ∷ tabulate f (suc a) m
 
-  -- 01: "Places of an answer beyond n hold 0": an array of m, in list order, with d beyond
+  -- 01: "Places of an answer beyond n hold 0": an array of m, with d beyond a list; and the same of a list that stands last first
+  abbrev pub padded : ℕ → A → List A → List A
+  padded m d xs = xs ++ replicate (m - length xs) d
+
   abbrev pub placed : ℕ → A → List A → List A
-  placed m d xs = forward xs ++ replicate (m - length xs) d
+  placed m d xs = padded m d (forward xs)
+
+-- 01: "recipes numbered from 1"
+abbrev pub versionOf : Job → ℕ → Version
+versionOf j k = atPosition noVersion (j .versions) k
 
 -- the jobs of a list, the last first
 abbrev pub jobsOf : JobList → List Job
@@ -60,3 +71,7 @@ jobsOf list = backward noJob (list .jobs) (list .count)
 -- the choice that an array holds for the jobs of a list, the last first
 abbrev pub chosen : JobList → List ℕ → List ℕ
 chosen list choice = backward 0 choice (list .count)
+
+-- the version that a choice, in list order, names for the job at position i
+abbrev pub versionAt : JobList → List ℕ → ℕ → Version
+versionAt list choice i = versionOf (atPosition noJob (list .jobs) i) (atPosition 0 choice i)

@@ -1,6 +1,5 @@
 -- Check's answer: which refusal comes first, and what is answered then.
 use Prim.Native.Nat.{ℕ}
-use native.Mathlib.Decide.{ℕ-discrete}
 use native.Mathlib.Omega.{arith}
 use mathlib.Core.Path.{_≡_, refl, sym, ap, _∙_}
 use mathlib.Core.Bool.{not}
@@ -14,12 +13,13 @@ use Rattle.jobs.proofs.Rules.{stretched-meets}
 use Rattle.week.specs.declared.record.Week.{Week}
 use Rattle.week.specs.declared.refusal.Refusal.{Refusal}
 use Rattle.week.specs.Refusal.{accepted, refused}
-use Rattle.week.specs.Fault.{listFault, choiceFault, handedFault}
-use Rattle.week.proofs.First.{number-of, or-first, or-second, firstOf-one, firstOf-append, firstOf-proper, refusedIf-true}
-use Rattle.week.proofs.First.{refusedIf-false, refusedIf-proper}
+use Rattle.week.specs.Fault.{handedFault}
+use Rattle.week.proofs.First.{number-of, refuses-too, firstOf-one, firstOf-proper}
+use Rattle.week.proofs.First.{refusedIf-true, refusedIf-false, refusedIf-proper, unless-passed, unless-refused, unless-names}
 use Rattle.planner.specs.declared.check.Checked.{Checked}
 use Rattle.planner.specs.Job.{weekJobs}
 use Rattle.planner.specs.Check.{weekChoice, ruleFault, checkFault, passed, refusedCheck, checkAnswer}
+use Rattle.planner.proofs.Handed.{first-handed, first-after}
 
 module _ (w : Week) (choice : List ℕ) where
   abbrev failed : ℕ
@@ -27,32 +27,24 @@ module _ (w : Week) (choice : List ℕ) where
 
   pub answer-refused : {r : Refusal} → checkFault w choice ≡ r → (r .number ≡ 0 → ⊥) → checkAnswer w choice ≡ refusedCheck r
   unfolding checkAnswer
-  answer-refused {r} e n = rw (e, ne-eqb (r .number) 0 n)
+  answer-refused e n = unless-refused _ _ _ (refuses-too (sym e) n) ∙ ap refusedCheck e
 
   pub answer-passed : checkFault w choice .number ≡ 0 → checkAnswer w choice ≡ passed w choice
   unfolding checkAnswer
-  answer-passed z = rw (eq-eqb (checkFault w choice .number) 0 z)
+  answer-passed z = unless-passed _ _ _ z
 
   -- what is answered names the first refusal
   pub answer-names : checkAnswer w choice .refusal ≡ checkFault w choice
-  unfolding passed refusedCheck checkFault
-  answer-names =
-      elim (ℕ-discrete (checkFault w choice .number) 0) [
-        | yes z ↦ ap (λ (a : Checked). a .refusal) (answer-passed z) ∙ sym (firstOf-proper _ z)
-        | no n ↦ ap (λ (a : Checked). a .refusal) (answer-refused refl n)
-      ]
+  unfolding checkAnswer passed refusedCheck checkFault
+  answer-names = unless-names _ _ _ (λ (a : Checked). a .refusal) refl refl (firstOf-proper _)
 
   pub fault-handed : (handedFault w choice .number ≡ 0 → ⊥) → checkFault w choice ≡ handedFault w choice
-  unfolding checkFault handedFault
-  fault-handed n =
-      firstOf-append (listFault w ∷ choiceFault w choice ∷ []) (ruleFault w choice ∷ []) ∙ or-first (handedFault w choice) _ n
+  unfolding checkFault
+  fault-handed n = first-handed w choice (ruleFault w choice ∷ []) n
 
   pub fault-rule : handedFault w choice .number ≡ 0 → checkFault w choice ≡ ruleFault w choice
-  unfolding checkFault handedFault ruleFault
-  fault-rule z =
-      firstOf-append (listFault w ∷ choiceFault w choice ∷ []) (ruleFault w choice ∷ [])
-      ∙ or-second (handedFault w choice) _ z
-      ∙ firstOf-one (ruleFault w choice) (refusedIf-proper _ _ _ _)
+  unfolding checkFault ruleFault
+  fault-rule z = first-after w choice (ruleFault w choice ∷ []) z ∙ firstOf-one (ruleFault w choice) (refusedIf-proper _ _ _ _)
 
   pub rule-met : failed ≡ 0 → ruleFault w choice ≡ accepted
   unfolding ruleFault

@@ -1,5 +1,5 @@
 -- Choose's answer: which refusal comes first, what is answered then, and what the table holds.
-use Prim.Native.Nat.{ℕ, _*_, _≤_, _<_}
+use Prim.Native.Nat.{ℕ, _*_, _≤_}
 use native.Mathlib.Decide.{ℕ-discrete}
 use native.Mathlib.Omega.{arith}
 use mathlib.Core.Path.{_≡_, refl, sym, ap, _∙_}
@@ -9,7 +9,7 @@ use mathlib.Core.List.{List, [], _∷_}
 use mathlib.Core.Option.{Option, none, some}
 use lib.ListN.{length}
 use lib.Dec.{eqb}
-use borrow.Author.Tests.{eq-eqb, ne-eqb, eqb-false, lt-ltb, le-ltb, ltb-false}
+use borrow.Author.Tests.{eqb-false}
 use Rattle.jobs.specs.Model.{noJob}
 use Rattle.jobs.specs.Best.{best}
 use Rattle.jobs.proofs.Cases.{option-cases}
@@ -18,10 +18,10 @@ use Rattle.select.specs.Table.{filled}
 use Rattle.select.proofs.Picks.{length-filled}
 use Rattle.week.specs.declared.record.Week.{Week}
 use Rattle.week.specs.declared.refusal.Refusal.{Refusal}
-use Rattle.week.specs.Refusal.{refused, firstOf}
+use Rattle.week.specs.Refusal.{firstOf, shortFault}
 use Rattle.week.specs.Fault.{listFault, WellFormed}
-use Rattle.week.proofs.First.{number-of, or-first, or-second, firstOf-here, firstOf-last, firstOf-none}
-use Rattle.week.proofs.First.{firstOf-proper, refusedIf-true, refusedIf-false, refusedIf-none, refusedIf-proper}
+use Rattle.week.proofs.First.{number-of, refuses-too, or-first, or-second, firstOf-here, firstOf-last, firstOf-none, firstOf-proper}
+use Rattle.week.proofs.First.{long-passes, short-proper, unless-passed, unless-refused}
 use Rattle.week.proofs.Numbers.{or-other, refusedIf-other, list-other}
 use Rattle.planner.specs.declared.choose.Plan.{Plan}
 use Rattle.planner.specs.Job.{jobListOf, weekJobs}
@@ -43,22 +43,18 @@ module _ (w : Week) (size : ℕ) where
 
   pub fault-table : listFault w .number ≡ 0 → fillFault w size ≡ tableFault w size
   unfolding fillFault tableFault
-  fault-table z = firstOf-last (listFault w) (tableFault w size) z (refusedIf-proper _ _ _ _)
-
-  pub table-short : size < w .count * widthOf w → tableFault w size ≡ refused 11 0 0
-  unfolding tableFault
-  table-short l = refusedIf-true 11 0 0 (lt-ltb _ _ l)
+  fault-table z = firstOf-last (listFault w) (tableFault w size) z (short-proper 10 (w .count * widthOf w) size)
 
   pub long-enough : LongEnough w size ↔ (w .count * widthOf w ≤ size)
   unfolding tableFault
-  long-enough = (λ e. ltb-false _ _ (refusedIf-none _ _ _ _ (number-of e)), λ l. refusedIf-false 11 0 0 (le-ltb _ _ l))
+  long-enough = long-passes 10 (w .count * widthOf w) size
 
   pub faultless : (fillFault w size .number ≡ 0) ↔ (WellFormed w × LongEnough w size)
   unfolding fillFault listFault tableFault
   faultless = (
     λ z.
         let list = firstOf-none _ _ z in
-        (firstOf-proper _ (list .0), refusedIf-proper _ _ _ _ (firstOf-none _ _ (list .1) .0)),
+        (firstOf-proper _ (list .0), short-proper 10 (w .count * widthOf w) size (firstOf-none _ _ (list .1) .0)),
     λ h. number-of (fault-table (number-of (h .0)) ∙ h .1),
   )
 
@@ -72,17 +68,17 @@ module _ (w : Week) (size : ℕ) where
   fault-plan z e = or-second (fillFault w size) _ z ∙ ap planFault e
 
   fault-other : eqb (fillFault w size .number) 14 ≡ false
-  unfolding fillFault tableFault firstOf
+  unfolding fillFault tableFault shortFault firstOf
   fault-other = search (or-other 14, refusedIf-other 14, list-other w)
 
   -- the answer
   pub plan-refused : {r : Refusal} → fillFault w size ≡ r → (r .number ≡ 0 → ⊥) → chooseAnswer w size ≡ refusedPlan r
   unfolding chooseAnswer
-  plan-refused {r} e n = rw (e, ne-eqb (r .number) 0 n)
+  plan-refused e n = unless-refused _ _ _ (refuses-too (sym e) n) ∙ ap refusedPlan e
 
   pub plan-passed : fillFault w size .number ≡ 0 → {o : Option (List ℕ)} → weekBest w ≡ o → chooseAnswer w size ≡ planOf w o
   unfolding chooseAnswer
-  plan-passed z e = rw (eq-eqb (fillFault w size .number) 0 z, e)
+  plan-passed z e = unless-passed _ _ _ z ∙ ap (planOf w) e
 
   -- where it refuses, it is the first refusal
   pub answer-fault : (chooseAnswer w size .refusal .number ≡ 0 → ⊥) → chooseAnswer w size ≡ refusedPlan (chooseFault w size)
@@ -127,12 +123,12 @@ module _ (w : Week) (size : ℕ) where
 module _ (w : Week) (table : List ℕ) where
   pub table-kept : {r : Refusal} → fillFault w (length table) ≡ r → (r .number ≡ 0 → ⊥) → tableAfter w table ≡ table
   unfolding tableAfter
-  table-kept {r} e n = rw (e, ne-eqb (r .number) 0 n)
+  table-kept e n = unless-refused _ _ _ (refuses-too (sym e) n)
 
   pub table-filled : fillFault w (length table) .number ≡ 0 →
       tableAfter w table ≡ filled (weekJobs w) (w .opening) (widthOf w) table
   unfolding tableAfter
-  table-filled z = rw (eq-eqb (fillFault w (length table) .number) 0 z)
+  table-filled z = unless-passed _ _ _ z
 
   pub table-size : w .count * widthOf w ≤ length table → length (filled (weekJobs w) (w .opening) (widthOf w) table) ≡ length table
   table-size long =

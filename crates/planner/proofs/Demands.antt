@@ -6,31 +6,42 @@ use native.Mathlib.Omega.{arith}
 use mathlib.Core.Path.{_≡_, refl, sym, _∙_}
 use mathlib.Core.Logic.{_↔_, _⊎_, inl, inr}
 use mathlib.Core.Bool.{true}
-use mathlib.Core.List.{List}
-use lib.ListN.{length, getD}
+use mathlib.Core.List.{List, [], _∷_, _++_}
+use lib.ListN.{length, getD, take, drop}
 use borrow.Author.Tests.{eqb-true, not-false}
+use Rattle.jobs.specs.Model.{atPosition}
 use Rattle.jobs.specs.Rule.{meets, failing}
+use Rattle.jobs.specs.Contract.{stretchAt}
 use Rattle.jobs.specs.Choice.{Higher}
+use Rattle.jobs.proofs.Places.{backward-take}
 use Rattle.jobs.proofs.Arrays.{chosen-placed, names-valid}
 use Rattle.jobs.proofs.Rules.{meets-failing}
 use Rattle.jobs.proofs.Demand.{best-some, best-none, none-best}
+use Rattle.edf.specs.Run.{outcomeNumbers}
 use Rattle.select.proofs.Entries.{filled-entry, filled-later}
 use Rattle.select.specs.Table.{entryAt}
 use Rattle.week.specs.declared.record.Week.{Week}
-use Rattle.week.specs.Record.{batchAt, recipeAt}
+use Rattle.week.specs.Record.{batchAt, batchOf, recipeAt, spanOf, readyOf}
 use Rattle.week.specs.Refusal.{refused}
-use Rattle.week.specs.Fault.{listFault, choiceFault, handedFault, WellFormed, WellChosen}
-use Rattle.week.proofs.First.{number-of, firstOf-later, firstOf-one, firstOf-none, firstOf-proper, refusedIf-none}
-use Rattle.week.proofs.Sound.{sound, named}
+use Rattle.week.specs.Fault.{WellFormed, WellChosen}
+use Rattle.week.proofs.First.{number-of, firstOf-none, refusedIf-none}
+use Rattle.week.proofs.Sound.{Sound, sound, Named, named, well-chosen}
+use Rattle.week.proofs.Order.{position-order}
 use Rattle.planner.specs.Job.{jobListOf, weekJobs}
 use Rattle.planner.specs.Check.{weekChoice, ruleFault, checkFault, passed, refusedCheck, checkAnswer}
 use Rattle.planner.specs.Choose.{widthOf, chooseFault, refusedPlan, planOf, chooseAnswer, tableAfter}
 use Rattle.planner.specs.Choose.{Fills, PicksTable, BestPlan, NoPlan, LongEnough}
-use Rattle.planner.proofs.Jobs.{handed-names}
+use Rattle.planner.specs.Run.{runFault, weekLog, setAside, refusedRun, runAnswer, logAfter, LongLog}
+use Rattle.planner.specs.Run.{chosenRecipe, unreadAt, StationLog, LogSays, InTime}
+use Rattle.planner.proofs.Handed.{none-handed, handed-passes}
+use Rattle.planner.proofs.Jobs.{handed-names, names-handed, plan-names}
 use Rattle.planner.proofs.Late.{late-recipe}
 use Rattle.planner.proofs.Checking.{answer-refused, answer-passed, answer-names, fault-rule, rule-met, rule-broken}
 use Rattle.planner.proofs.Choosing.{long-enough, faultless, plan-passed, answer-fault, fills-faultless}
 use Rattle.planner.proofs.Choosing.{zero-some, fourteen-none, table-kept, table-filled, table-size}
+use Rattle.planner.proofs.Running.{run-names, run-faultless, run-refused, run-passed, log-kept, log-written, long-log}
+use Rattle.planner.proofs.Station.{station-log, week-in-time}
+use Rattle.planner.proofs.Outcomes.{log-says, finished}
 
 -- Demand 1: "Any list, in order or damaged, gets a plan or one numbered refusal with its place".
 -- Check's contract answers `checkAnswer` on every input. Where that refuses, it is the first refusal of Check's order and 0
@@ -73,12 +84,29 @@ module _ (w : Week) (table : List ℕ) (fills : Fills (chooseAnswer w (length ta
       rw (choose-fills .entry i x first last from to)
       (late-recipe w (sound w (number-of (passed-both .0))) i x first last late)
 
+-- Run's contract answers `runAnswer` and leaves `logAfter` on every input. 01: "Run takes any well-formed choice, also one that
+-- breaks the rule", of a well-formed list, with a log that 12 does not catch ..
+pub run-runs : (w : Week) (choice : List ℕ) (size : ℕ) →
+    (runAnswer w choice size .refusal .number ≡ 0) ↔ (WellFormed w × WellChosen w choice × LongLog w size)
+run-runs w choice size =
+    let names = number-of (run-names w choice size) in
+    let faultless = run-faultless w choice size in
+    (λ z. faultless .0 (sym names ∙ z), λ h. names ∙ faultless .1 h)
+
+-- .. and where it refuses, the answer is the first refusal of Run's order, 0 and set aside everywhere else, and the log is kept.
+pub run-refuses : (w : Week) (choice : List ℕ) (size : ℕ) → (runAnswer w choice size .refusal .number ≡ 0 → ⊥) →
+    runAnswer w choice size ≡ refusedRun (runFault w choice size)
+run-refuses w choice size n = run-refused w choice size refl (λ z. n (number-of (run-names w choice size) ∙ z))
+
+pub run-keeps : (w : Week) (choice log : List ℕ) → (runAnswer w choice (length log) .refusal .number ≡ 0 → ⊥) →
+    logAfter w choice log ≡ log
+run-keeps w choice log n = log-kept w choice log refl (λ z. n (number-of (run-names w choice (length log)) ∙ z))
+
 -- Demand 2: "A plan must meet the backward rule of the ECRTS 2008 paper as 01 writes it; a well-formed list's plan that meets
 -- it is passed ..
 module _ (w : Week) (choice : List ℕ) (list : WellFormed w) (handed : WellChosen w choice) where
   by-rule : checkFault w choice ≡ ruleFault w choice
-  unfolding handedFault
-  by-rule = fault-rule w choice (number-of (firstOf-later _ _ (number-of list) ∙ firstOf-one _ (λ z. handed) ∙ handed))
+  by-rule = fault-rule w choice (handed-passes w choice list handed)
 
   pub check-passes : meets (weekJobs w) (w .closing) (weekChoice w choice) ≡ true → checkAnswer w choice ≡ passed w choice
   check-passes met =
@@ -100,18 +128,52 @@ pub record Passed (w : Week) (choice : List ℕ) : Type 0 where
   pub meeting : meets (weekJobs w) (w .closing) (weekChoice w choice) ≡ true
 
 pub check-passed : (w : Week) (choice : List ℕ) → checkAnswer w choice .refusal .number ≡ 0 → Passed w choice
-unfolding checkFault ruleFault listFault choiceFault
+unfolding checkFault ruleFault
 check-passed w choice z =
-    let list = firstOf-none _ _ (number-of (sym (answer-names w choice)) ∙ z) in
-    let handed = firstOf-none _ _ (list .1) in
-    let rule = firstOf-none _ _ (handed .1) in
+    let handed = none-handed w choice (ruleFault w choice ∷ []) (number-of (sym (answer-names w choice)) ∙ z) in
     record {
-      list = firstOf-proper _ (list .0);
-      handed = firstOf-proper _ (handed .0);
+      list = handed .0;
+      handed = handed .1;
       meeting =
           meets-failing (weekJobs w) (w .closing) (weekChoice w choice) .1
-          (eqb-true _ _ (not-false _ (refusedIf-none _ _ _ _ (rule .0))));
+          (eqb-true _ _ (not-false _ (refusedIf-none _ _ _ _ (firstOf-none _ _ (handed .2) .0))));
     }
+
+-- "the station's run is earliest due first, minute by minute, as 01 defines it; the desk's minutes stand as written": a log that
+-- Run has written ..
+module _ (w : Week) (choice log : List ℕ) (runs : runAnswer w choice (length log) .refusal .number ≡ 0) where
+  nothing-refuses : runFault w choice (length log) .number ≡ 0
+  nothing-refuses = number-of (sym (run-names w choice (length log))) ∙ runs
+
+  all-passed : WellFormed w × WellChosen w choice × LongLog w (length log)
+  all-passed = run-faultless w choice (length log) .0 nothing-refuses
+
+  list-sound : Sound w
+  list-sound = sound w (number-of (all-passed .0))
+
+  choice-named : Named w choice
+  choice-named = named w choice (number-of (all-passed .1))
+
+  written : logAfter w choice log ≡ weekLog w choice ++ drop (spanOf w) log
+  written = log-written w choice log nothing-refuses
+
+  -- .. has each minute as 01 says, over the arrivals and costs that the desk wrote, and keeps the bytes after them;
+  pub run-reads : StationLog w choice log (logAfter w choice log)
+  run-reads = rw written (station-log w choice log list-sound choice-named (long-log w (length log) .0 (all-passed .2)))
+
+  -- .. and a batch that is read in a minute is due no later than any other that has arrived and has minutes left.
+  pub earliest-due : (m : ℕ) → w .opening ≤ m → m < w .closing →
+      let k = getD (logAfter w choice log) (m - w .opening) 0 in
+      1 ≤ k →
+      (i : ℕ) → 1 ≤ i → i ≤ w .count → readyOf (w .opening) (batchOf w i) ≤ m →
+      1 ≤ unreadAt w choice (logAfter w choice log) m i → batchOf w k .due ≤ batchOf w i .due
+  earliest-due m from to some i low high arrived unread =
+      let reads = run-reads .reads m from to in
+      position-order w (number-of (all-passed .0)) _ i some (reads .first i low high arrived unread .1) high
+
+  -- The answer says of that log what 01 asks: each outcome, the idle minutes, the changes.
+  pub run-says : LogSays w choice (logAfter w choice log) (runAnswer w choice (length log))
+  run-says = rw (written, run-passed w choice (length log) nothing-refuses) (log-says w list-sound choice choice-named log)
 
 -- Demand 3: "The chosen plan meets the rule and its total is the sum of its worths; every other choice that meets the rule has a
 -- smaller total, or the same total and a higher recipe number at the last batch where the two differ" ..
@@ -149,3 +211,52 @@ choose-over-check w size z choice e other =
     let names = handed-names w (sound w (number-of (p .list))) (named w choice (number-of (p .handed))) in
     rw (check-passes w choice (p .list) (p .handed) (p .meeting), plan .summed)
     (plan .chosen .others (weekChoice w choice) (names-valid names) (p .meeting) other)
+
+-- "in the station's run of the chosen plan the minutes each batch gets before its stretch ends number exactly its recipe's
+-- minutes." It holds of every choice that meets the rule, ..
+module _
+    (w : Week) (choice log : List ℕ) (runs : runAnswer w choice (length log) .refusal .number ≡ 0)
+    (meeting : meets (weekJobs w) (w .closing) (weekChoice w choice) ≡ true)
+  where
+    pub run-in-time : InTime w choice (logAfter w choice log)
+    run-in-time =
+        rw (written w choice log runs)
+        (week-in-time w choice log (list-sound w choice log runs) (choice-named w choice log runs) meeting)
+
+    -- .. so that every batch that is read is finished by the end of its stretch ..
+    pub run-finishes : (i : ℕ) → 1 ≤ i → i ≤ w .count → 1 ≤ chosenRecipe w choice i .cost →
+        (f : ℕ)
+        × (outcomeNumbers (atPosition setAside (runAnswer w choice (length log) .batches) i .outcome) ≡ 1 ∷ f ∷ [])
+        × (f ≤ stretchAt (jobListOf w) choice (w .closing) i .end)
+    run-finishes =
+        rw (run-passed w choice (length log) (nothing-refuses w choice log runs))
+        (finished w (list-sound w choice log runs) choice (choice-named w choice log runs) meeting)
+
+-- .. and so of the plan that Choose answers: 01's "Run with the same list, with that plan as its choice and with a log that 12 does
+-- not catch".
+module _
+    (w : Week) (size : ℕ) (planned : chooseAnswer w size .refusal .number ≡ 0) (log : List ℕ) (long : LongLog w (length log))
+  where
+    -- that plan as a choice
+    abbrev plan : List ℕ
+    plan = take (w .count) (chooseAnswer w size .choice)
+
+    plan-handed : Named w plan
+    unfolding planOf
+    plan-handed =
+        let some = zero-some w size planned in
+        let passed = fills-faultless w size .0 (inl planned) in
+        let fine = sound w (number-of (faultless w size .0 passed .0)) in
+        rw (plan-passed w size passed (some .1))
+        (names-handed w fine (plan-names w fine (some .0) (best-some (weekJobs w) (w .closing) (some .0) (some .1) .valid)))
+
+    pub choose-runs : runAnswer w plan (length log) .refusal .number ≡ 0
+    choose-runs =
+        let list = faultless w size .0 (fills-faultless w size .0 (inl planned)) .0 in
+        run-runs w plan (length log) .1 (list, well-chosen w plan-handed, long)
+
+    pub choose-in-time : InTime w plan (logAfter w plan log)
+    choose-in-time =
+        run-in-time w plan log choose-runs
+        (rw (backward-take 0 (chooseAnswer w size .choice) (w .count) (w .count) (omega arith))
+        (choose-best w size planned .chosen .meeting))

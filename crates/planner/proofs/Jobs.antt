@@ -3,7 +3,8 @@ use Prim.Native.Nat.{ℕ, zero, suc, _-_, _*_, _≤_, _<_}
 use native.Mathlib.Omega.{arith}
 use mathlib.Core.Path.{_≡_, ap}
 use mathlib.Core.List.{List}
-use lib.ListN.{getD}
+use lib.ListN.{getD, take}
+use lib.Seq.{length-take-le, getD-take}
 use Rattle.jobs.specs.declared.model.Version.{Version}
 use Rattle.jobs.specs.declared.model.Job.{Job}
 use Rattle.jobs.specs.Model.{maxVersions, noVersion, noJob, versionOf, placed}
@@ -48,7 +49,16 @@ module _ (w : Week) (sound : Sound w) where
         few = few-versions;
       }
 
-  -- and so does a choice of the jobs, in list order
+  -- and an array that names one of its versions for each job is, as far as the list goes, a choice that can be handed in
+  pub names-handed : {array : List ℕ} → Names (jobListOf w) array → Named w (take (w .count) array)
+  names-handed {array} names =
+      record {
+        whole = length-take-le (w .count) array (names .whole);
+        low = λ i l. rw (getD-take (w .count) array i 0 l) (names .low i l);
+        high = λ i l. rw (getD-take (w .count) array i 0 l) (omega (arith, count-at i l, names .high i l));
+      }
+
+  -- a choice of the jobs, in list order, names a version of each
   pub plan-names : (ks : List ℕ) → Valid (weekJobs w) ks → Names (jobListOf w) (placed maxBatches 0 ks)
   plan-names ks valid = valid-names (jobListOf w) ks valid (sound .most) few-versions
 

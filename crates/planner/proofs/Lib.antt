@@ -4,3 +4,8 @@ pub mod Late
 pub mod Checking
 pub mod Choosing
 pub mod ReadOff
+pub mod Handed
+pub mod Running
+pub mod Written
+pub mod Station
+pub mod Outcomes

@@ -1,18 +1,18 @@
 -- Check: what it answers, on every list and every choice.
 use Prim.Native.Nat.{ℕ}
-use mathlib.Core.Bool.{cond, not}
+use mathlib.Core.Bool.{not}
 use mathlib.Core.List.{List, [], _∷_}
 use lib.ListN.{replicate}
 use lib.Dec.{eqb}
-use Rattle.jobs.specs.Model.{placed, chosen}
-use Rattle.jobs.specs.Rule.{failing, stretches}
+use Rattle.jobs.specs.Model.{chosen}
+use Rattle.jobs.specs.Rule.{failing}
 use Rattle.jobs.specs.Choice.{total}
-use Rattle.jobs.specs.Contract.{noStretch}
+use Rattle.jobs.specs.Contract.{noStretch, stretchesOf}
 use Rattle.week.specs.declared.record.Week.{Week}
 use Rattle.week.specs.declared.refusal.Refusal.{Refusal}
 use Rattle.planner.specs.declared.check.Checked.{Checked}
 use Rattle.week.specs.Record.{maxBatches}
-use Rattle.week.specs.Refusal.{accepted, refusedIf, firstOf}
+use Rattle.week.specs.Refusal.{accepted, refusedIf, firstOf, unlessRefused}
 use Rattle.week.specs.Fault.{listFault, choiceFault}
 use Rattle.planner.specs.Job.{jobListOf, weekJobs}
 
@@ -36,7 +36,7 @@ passed w choice =
     record {
       refusal = accepted;
       total = total (weekJobs w) (weekChoice w choice);
-      stretches = placed maxBatches noStretch (stretches (weekJobs w) (w .closing) (weekChoice w choice));
+      stretches = stretchesOf (weekJobs w) (w .closing) (weekChoice w choice);
     }
 
 -- "Anything else that its record holds is 0".
@@ -44,4 +44,4 @@ unfoldable pub refusedCheck : Refusal → Checked
 refusedCheck r = record { refusal = r; total = 0; stretches = replicate maxBatches noStretch }
 
 unfoldable pub checkAnswer : Week → List ℕ → Checked
-checkAnswer w choice = cond (eqb (checkFault w choice .number) 0) (passed w choice) (refusedCheck (checkFault w choice))
+checkAnswer w choice = unlessRefused (checkFault w choice) (passed w choice) (refusedCheck (checkFault w choice))

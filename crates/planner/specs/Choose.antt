@@ -1,12 +1,11 @@
 -- Choose: what it answers and what it leaves in the picks table, on every list and every table.
-use Prim.Native.Nat.{ℕ, _+_, _-_, _*_, _≤_}
+use Prim.Native.Nat.{ℕ, _+_, _*_, _≤_}
 use mathlib.Core.Path.{_≡_}
 use mathlib.Core.Logic.{_⊎_}
-use mathlib.Core.Bool.{true, cond}
+use mathlib.Core.Bool.{true}
 use mathlib.Core.List.{List, [], _∷_}
 use mathlib.Core.Option.{Option, none, some}
 use lib.ListN.{length, getD, replicate}
-use lib.Dec.{ltb, eqb}
 use Rattle.jobs.specs.declared.model.Job.{Job}
 use Rattle.jobs.specs.Model.{noJob, backward, placed}
 use Rattle.jobs.specs.Rule.{meets}
@@ -16,19 +15,19 @@ use Rattle.select.specs.Table.{filled, entryAt}
 use Rattle.week.specs.declared.record.Week.{Week}
 use Rattle.week.specs.declared.refusal.Refusal.{Refusal}
 use Rattle.planner.specs.declared.choose.Plan.{Plan}
-use Rattle.week.specs.Record.{maxBatches}
-use Rattle.week.specs.Refusal.{accepted, refused, refusedIf, orElse, firstOf}
+use Rattle.week.specs.Record.{maxBatches, spanOf}
+use Rattle.week.specs.Refusal.{accepted, refused, orElse, firstOf, shortFault, unlessRefused}
 use Rattle.week.specs.Fault.{listFault}
 use Rattle.planner.specs.Job.{jobListOf, weekJobs}
 use Rattle.planner.specs.Check.{weekChoice}
 
 -- the minutes from t to c, both included: a row of the picks table has an entry for each
 abbrev pub widthOf : Week → ℕ
-widthOf w = w .closing - w .opening + 1
+widthOf w = spanOf w + 1
 
 -- "11: picks table shorter than n × (c − t + 1), n being the batches."
 unfoldable pub tableFault : Week → ℕ → Refusal
-tableFault w size = refusedIf 11 0 0 (ltb size (w .count * widthOf w))
+tableFault w size = shortFault 11 (w .count * widthOf w) size
 
 -- "14: no choice meets the rule (Choose)."
 abbrev pub planFault : Option (List ℕ) → Refusal
@@ -54,12 +53,12 @@ planOf w (some ks) = record { refusal = accepted; total = total (weekJobs w) ks;
 
 unfoldable pub chooseAnswer : Week → ℕ → Plan
 chooseAnswer w size =
-    cond (eqb (fillFault w size .number) 0) (planOf w (best (weekJobs w) (w .closing))) (refusedPlan (fillFault w size))
+    unlessRefused (fillFault w size) (planOf w (best (weekJobs w) (w .closing))) (refusedPlan (fillFault w size))
 
 -- "Choosing fills a lent table of bytes." "The table is filled as well when refusal 14 is given." "Only 14 alters lent memory".
 unfoldable pub tableAfter : Week → List ℕ → List ℕ
 tableAfter w table =
-    cond (eqb (fillFault w (length table) .number) 0) (filled (weekJobs w) (w .opening) (widthOf w) table) table
+    unlessRefused (fillFault w (length table)) (filled (weekJobs w) (w .opening) (widthOf w) table) table
 
 -- an answer with which the table is filled: a plan, or 14
 abbrev pub Fills : Plan → Type 0

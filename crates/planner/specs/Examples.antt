@@ -9,20 +9,23 @@ use Rattle.jobs.specs.declared.rule.Stretch.{Stretch}
 use Rattle.jobs.specs.Rule.{stretchOf, fits, nextBound}
 use Rattle.jobs.specs.Best.{best}
 use Rattle.edf.specs.Run.{entries, minutesLeft, firstOpen, logOf, idle, changesAfter, changes, upToLast, outcomeOf, outcomeNumbers}
+use Rattle.edf.specs.Workload.{choiceLog, workloadOf, outcomeAt}
 use Rattle.select.specs.Row.{score}
 use Rattle.select.specs.Table.{filled}
 use Rattle.week.specs.declared.record.Recipe.{Recipe}
 use Rattle.week.specs.declared.record.Batch.{Batch}
 use Rattle.week.specs.declared.record.Week.{Week}
-use Rattle.week.specs.Record.{maxBatches, maxRecipes, noRecipe, emptyBatch, before}
-use Rattle.week.specs.Refusal.{refusedIf, orElse, firstOf, first}
+use Rattle.week.specs.Record.{maxBatches, maxRecipes, noRecipe, emptyBatch, spanOf, before}
+use Rattle.week.specs.Refusal.{refusedIf, orElse, firstOf, first, shortFault, unlessRefused}
 use Rattle.week.specs.Fault.{weekFault, costFault, worthFault, repeatFault, orderFault, batchFault, listFault, nameFault, choiceFault}
 use Rattle.planner.specs.declared.check.Checked.{Checked}
 use Rattle.planner.specs.declared.choose.Plan.{Plan}
+use Rattle.planner.specs.declared.run.BatchRun.{BatchRun}
+use Rattle.planner.specs.declared.run.WeekRun.{WeekRun}
 use Rattle.planner.specs.Job.{weekJobs}
 use Rattle.planner.specs.Check.{ruleFault, checkFault, passed, refusedCheck, checkAnswer}
 use Rattle.planner.specs.Choose.{widthOf, tableFault, fillFault, refusedPlan, planOf, chooseAnswer, tableAfter}
-use Rattle.planner.specs.Run.{weekLog, weekOutcome}
+use Rattle.planner.specs.Run.{logFault, runFault, weekLog, logAnswer, refusedRun, runAnswer, logAfter}
 
 -- The lists.
 abbrev recipe : ℕ → ℕ → Recipe
@@ -106,13 +109,22 @@ checkNumbers n a =
 abbrev check : Week → List ℕ → List ℕ
 check w choice = checkNumbers (w .count) (checkAnswer w choice)
 
-abbrev outcomes : Week → List ℕ → ℕ → List ℕ
-outcomes w choice zero = []
-outcomes w choice (suc i) = outcomes w choice i ++ outcomeNumbers (weekOutcome w choice i)
+abbrev outcomes : List BatchRun → List ℕ
+outcomes [] = []
+outcomes (b ∷ bs) = outcomeNumbers (b .outcome) ++ outcomes bs
 
--- the run's changes and idle minutes, and each batch's outcome: 0 0 set aside, 1 and the minute finished, 2 and the minutes left
+-- Run's refusal, changes, idle minutes and each batch's outcome: 0 0 set aside, 1 and the minute finished, 2 and the minutes left
+abbrev runNumbers : ℕ → WeekRun → List ℕ
+runNumbers n a =
+    a .refusal .number ∷ a .refusal .place ∷ a .refusal .recipe ∷ a .changes ∷ a .idle ∷ outcomes (take n (a .batches))
+
+-- with a log that is just long enough
 abbrev run : Week → List ℕ → List ℕ
-run w choice = changes (weekLog w choice) ∷ idle (weekLog w choice) ∷ outcomes w choice (w .count)
+run w choice = runNumbers (w .count) (runAnswer w choice (spanOf w))
+
+-- the log after Run: it was 255 everywhere, and has one byte more than the week has minutes
+abbrev log : Week → List ℕ → List ℕ
+log w choice = logAfter w choice (replicate (spanOf w + 1) 255)
 
 -- the picks table after Choose: it was 255 everywhere, and has one byte more than the rows
 abbrev picks : Week → List ℕ
@@ -137,7 +149,7 @@ table =
     -- C
     ∷ (check weekW (1 ∷ 1 ∷ 1 ∷ []) is (15 ∷ 1 ∷ 0 ∷ 0 ∷ 0 ∷ 0 ∷ 0 ∷ 0 ∷ 0 ∷ 0 ∷ []))
     -- D
-    ∷ (run weekW (2 ∷ 1 ∷ 1 ∷ []) is (4 ∷ 10 ∷ 1 ∷ 10 ∷ 1 ∷ 50 ∷ 1 ∷ 90 ∷ []))
+    ∷ (run weekW (2 ∷ 1 ∷ 1 ∷ []) is (0 ∷ 0 ∷ 0 ∷ 4 ∷ 10 ∷ 1 ∷ 10 ∷ 1 ∷ 50 ∷ 1 ∷ 90 ∷ []))
     -- E: the bound for batch 1 is the start of batch 2's stretch, 100
     ∷ (choose (weekE 2340) is (0 ∷ 0 ∷ 0 ∷ 23 ∷ 8 ∷ 1 ∷ 1 ∷ []))
     ∷ (check (weekE 2340) (8 ∷ 1 ∷ 1 ∷ []) is (0 ∷ 0 ∷ 0 ∷ 23 ∷ 7 ∷ 100 ∷ 100 ∷ 1010 ∷ 2120 ∷ 2340 ∷ []))
@@ -150,7 +162,7 @@ table =
     ∷ (choose (weekG (recipe 11 1 ∷ recipe 0 0 ∷ [])) is (0 ∷ 0 ∷ 0 ∷ 0 ∷ 2 ∷ []))
     -- J: no plan, yet the run finishes at 9 and 5
     ∷ (choose weekJ is (14 ∷ 0 ∷ 0 ∷ 0 ∷ 0 ∷ 0 ∷ []))
-    ∷ (run weekJ (1 ∷ 1 ∷ []) is (2 ∷ 1 ∷ 1 ∷ 9 ∷ 1 ∷ 5 ∷ []))
+    ∷ (run weekJ (1 ∷ 1 ∷ []) is (0 ∷ 0 ∷ 0 ∷ 2 ∷ 1 ∷ 1 ∷ 9 ∷ 1 ∷ 5 ∷ []))
     -- K
     ∷ (choose (weekK 21) is (0 ∷ 0 ∷ 0 ∷ 1 ∷ 1 ∷ []))
     ∷ (check (weekK 21) (1 ∷ []) is (0 ∷ 0 ∷ 0 ∷ 1 ∷ 20 ∷ 21 ∷ []))
@@ -159,10 +171,17 @@ table =
     ∷ (choose (week 0 10 []) is (0 ∷ 0 ∷ 0 ∷ 0 ∷ []))
     -- What A to L leave open, worked out from 01's text: a late batch goes on, and the one behind it is left with 2 minutes; a
     -- batch that is set aside; idle minutes between two batches and after them; and an entry that follows an idle minute
-    ∷ (run weekLate (1 ∷ 1 ∷ []) is (2 ∷ 0 ∷ 1 ∷ 3 ∷ 2 ∷ 2 ∷ []))
-    ∷ (run (weekG (recipe 11 1 ∷ recipe 0 0 ∷ [])) (2 ∷ []) is (0 ∷ 10 ∷ 0 ∷ 0 ∷ []))
-    ∷ (run weekGap (1 ∷ 1 ∷ []) is (2 ∷ 3 ∷ 1 ∷ 2 ∷ 1 ∷ 5 ∷ []))
+    ∷ (run weekLate (1 ∷ 1 ∷ []) is (0 ∷ 0 ∷ 0 ∷ 2 ∷ 0 ∷ 1 ∷ 3 ∷ 2 ∷ 2 ∷ []))
+    ∷ (run (weekG (recipe 11 1 ∷ recipe 0 0 ∷ [])) (2 ∷ []) is (0 ∷ 0 ∷ 0 ∷ 0 ∷ 10 ∷ 0 ∷ 0 ∷ []))
+    ∷ (run weekGap (1 ∷ 1 ∷ []) is (0 ∷ 0 ∷ 0 ∷ 2 ∷ 3 ∷ 1 ∷ 2 ∷ 1 ∷ 5 ∷ []))
     ∷ ((changes (1 ∷ 0 ∷ 1 ∷ 1 ∷ 0 ∷ []) ∷ []) is (2 ∷ []))
+    -- the log itself, and the byte after it; and of a run that is refused: a recipe that is not there, a log that is too short
+    ∷ (log weekLate (1 ∷ 1 ∷ []) is (1 ∷ 1 ∷ 1 ∷ 2 ∷ 255 ∷ []))
+    ∷ (log weekGap (1 ∷ 1 ∷ []) is (1 ∷ 1 ∷ 0 ∷ 2 ∷ 2 ∷ 0 ∷ 0 ∷ 255 ∷ []))
+    ∷ (run weekLate (1 ∷ 2 ∷ []) is (13 ∷ 2 ∷ 0 ∷ 0 ∷ 0 ∷ 0 ∷ 0 ∷ 0 ∷ 0 ∷ []))
+    ∷ (log weekLate (1 ∷ 2 ∷ []) is (255 ∷ 255 ∷ 255 ∷ 255 ∷ 255 ∷ []))
+    ∷ (runNumbers 2 (runAnswer weekLate (1 ∷ 1 ∷ []) 3) is (12 ∷ 0 ∷ 0 ∷ 0 ∷ 0 ∷ 0 ∷ 0 ∷ 0 ∷ 0 ∷ []))
+    ∷ (logAfter weekLate (1 ∷ 1 ∷ []) (255 ∷ 255 ∷ 255 ∷ []) is (255 ∷ 255 ∷ 255 ∷ []))
     -- a set-aside batch asks nothing, though it arrives after the bound
     ∷ (choose weekAside is (0 ∷ 0 ∷ 0 ∷ 10 ∷ 1 ∷ 2 ∷ 2 ∷ []))
     ∷ (check weekAside (1 ∷ 2 ∷ 2 ∷ []) is (0 ∷ 0 ∷ 0 ∷ 10 ∷ 2 ∷ 4 ∷ 4 ∷ 4 ∷ 4 ∷ 10 ∷ []))
@@ -197,7 +216,9 @@ agree (e ∷ es) = same (e .said) (e .written) && agree es
 examples : agree table ≡ true
 unfolding
     table same agree weekW weekE weekG weekJ weekK weekLate weekGap weekAside weekP stretchOf fits nextBound best
-    entries minutesLeft firstOpen logOf idle changesAfter changes upToLast outcomeOf outcomeNumbers weekLog weekOutcome
-    before refusedIf orElse firstOf first weekFault costFault worthFault repeatFault orderFault batchFault listFault nameFault choiceFault
+    entries minutesLeft firstOpen logOf idle changesAfter changes upToLast outcomeOf outcomeNumbers
+    choiceLog workloadOf outcomeAt weekLog before refusedIf orElse firstOf first shortFault unlessRefused
+    weekFault costFault worthFault repeatFault orderFault batchFault listFault nameFault choiceFault
     ruleFault checkFault passed refusedCheck checkAnswer tableFault fillFault refusedPlan planOf chooseAnswer filled tableAfter
+    logFault runFault logAnswer refusedRun runAnswer logAfter
 examples = refl

@@ -1,37 +1,109 @@
--- Run over a week and a choice: its log, and what it answers from the log.
-use Prim.Native.Nat.{ℕ, suc, _-_}
-use mathlib.Core.Bool.{cond, not}
-use mathlib.Core.List.{List, [], _∷_, map}
-use lib.ListN.{getD}
-use Rattle.jobs.specs.declared.model.Version.{Version}
-use Rattle.jobs.specs.declared.model.Job.{Job}
-use Rattle.jobs.specs.Model.{noVersion, versionOf}
-use Rattle.edf.specs.declared.Outcome.{Outcome}
-use Rattle.edf.specs.Run.{numbered, logOf, outcomeOf}
+-- Run: what it answers and what it leaves in the log, on every list, choice and log.
+use Prim.Native.Nat.{ℕ, suc, _+_, _-_, _≤_, _<_}
+use mathlib.Core.Path.{_≡_}
+use mathlib.Core.Bool.{cond}
+use mathlib.Core.List.{List, [], _∷_, _++_}
+use lib.ListN.{length, getD, take, drop, replicate}
+use lib.Dec.{leb, eqb}
+use Rattle.jobs.specs.Model.{atPosition, tabulate, padded}
+use Rattle.jobs.specs.Contract.{stretchAt}
+use Rattle.edf.specs.declared.outcome.Outcome.the-variants.{SetAside}
+use Rattle.edf.specs.declared.workload.Workload.{Workload}
+use Rattle.edf.specs.Run.{Reads, entries, minutesLeft, minutesBefore, idle, changes, upToLast, outcomeNumbers}
+use Rattle.edf.specs.Workload.{choiceLog, workloadOf, outcomeAt}
+use Rattle.week.specs.declared.record.Recipe.{Recipe}
 use Rattle.week.specs.declared.record.Week.{Week}
+use Rattle.week.specs.declared.refusal.Refusal.{Refusal}
+use Rattle.planner.specs.declared.run.BatchRun.{BatchRun}
+use Rattle.planner.specs.declared.run.WeekRun.{WeekRun}
+use Rattle.week.specs.Record.{maxBatches, batchOf, recipeOf, spanOf, readyOf}
+use Rattle.week.specs.Refusal.{accepted, firstOf, shortFault, unlessRefused}
+use Rattle.week.specs.Fault.{listFault, choiceFault}
 use Rattle.planner.specs.Job.{jobListOf}
 
--- the versions that a choice names, in list order
-abbrev pub versionsOf : List Job → List ℕ → List Version
-versionsOf [] ks = []
-versionsOf (j ∷ js) [] = []
-versionsOf (j ∷ js) (k ∷ ks) = versionOf j k ∷ versionsOf js ks
+-- "12: log shorter than c − t."
+unfoldable pub logFault : Week → ℕ → Refusal
+logFault w size = shortFault 12 (spanOf w) size
 
-abbrev pub weekVersions : Week → List ℕ → List Version
-weekVersions w choice = versionsOf (jobListOf w .jobs) choice
+-- the refusals of Run in their order
+unfoldable pub runFault : Week → List ℕ → ℕ → Refusal
+runFault w choice size = firstOf (listFault w ∷ choiceFault w choice ∷ logFault w size ∷ [])
 
--- the minutes that the station has to read of a version
-abbrev pub minutesOf : Version → ℕ
-minutesOf v = cond (v .read) (v .cost) 0
-
--- "For each minute from t to c − 1"
+-- "For each minute from t to c − 1, the station reads the first batch in list order that has s at or before this minute and
+-- minutes left to read."
 unfoldable pub weekLog : Week → List ℕ → List ℕ
-weekLog w choice =
-    logOf (w .count) (numbered (map (λ (j : Job). j .ready) (jobListOf w .jobs)))
-    (numbered (map minutesOf (weekVersions w choice))) (w .opening) (w .closing - w .opening)
+weekLog w choice = choiceLog (jobListOf w) choice (w .opening) (spanOf w)
 
--- the outcome of the batch of index i: a version that is not read is set aside
-unfoldable pub weekOutcome : Week → List ℕ → ℕ → Outcome
-weekOutcome w choice i =
-    outcomeOf (not (getD (weekVersions w choice) i noVersion .read)) (minutesOf (getD (weekVersions w choice) i noVersion))
-    (w .opening) (weekLog w choice) (suc i)
+-- a place of the answer for a batch that is set aside, and beyond n
+abbrev pub setAside : BatchRun
+setAside = record { outcome = SetAside }
+
+-- "For each batch the run answers one of: set aside; finished, with the minute after its last; unfinished, with the minutes
+-- left. It answers the idle minutes. It answers the number of changes": of a workload, after a log that starts at minute t
+unfoldable pub logAnswer : Workload → ℕ → List ℕ → WeekRun
+logAnswer work t log =
+    record {
+      refusal = accepted;
+      idle = idle log;
+      changes = changes log;
+      batches = padded maxBatches setAside (tabulate (λ i. record { outcome = outcomeAt work t log (suc i) }) 0 (work .count));
+    }
+
+-- "Anything else that its record holds is 0 (in the run, set aside)."
+unfoldable pub refusedRun : Refusal → WeekRun
+refusedRun r = record { refusal = r; idle = 0; changes = 0; batches = replicate maxBatches setAside }
+
+unfoldable pub runAnswer : Week → List ℕ → ℕ → WeekRun
+runAnswer w choice size =
+    unlessRefused (runFault w choice size)
+    (logAnswer (workloadOf (jobListOf w) choice) (w .opening) (weekLog w choice))
+    (refusedRun (runFault w choice size))
+
+-- "Entry m of a lent log of bytes, from 0, is the position of the batch read in minute t + m, or 0 for an idle minute. Bytes
+-- after entry c − t − 1 keep their values." "Only 14 alters lent memory (the picks table)."
+unfoldable pub logAfter : Week → List ℕ → List ℕ → List ℕ
+logAfter w choice log = unlessRefused (runFault w choice (length log)) (weekLog w choice ++ drop (spanOf w) log) log
+
+-- 01, "The words of demand 3": a log "that 12 does not catch"
+abbrev pub LongLog : Week → ℕ → Type 0
+LongLog w size = logFault w size ≡ accepted
+
+-- the recipe that a choice names at position i, as the desk wrote it
+abbrev pub chosenRecipe : Week → List ℕ → ℕ → Recipe
+chosenRecipe w choice i = recipeOf (batchOf w i) (atPosition 0 choice i)
+
+-- the minutes of position i that a log has not read when minute m begins
+abbrev pub unreadAt : Week → List ℕ → List ℕ → ℕ → ℕ → ℕ
+unreadAt w choice log m = minutesLeft (λ i. chosenRecipe w choice i .cost) (take (m - w .opening) log)
+
+-- demand 2: "the station's run is earliest due first, minute by minute, as 01 defines it". 01: "For each minute from t to c − 1,
+-- the station reads the first batch in list order that has s at or before this minute and minutes left to read." "Bytes after
+-- entry c − t − 1 keep their values."
+pub record StationLog (w : Week) (choice before after : List ℕ) : Type 0 where
+  pub size : length after ≡ length before
+  pub reads : (m : ℕ) → w .opening ≤ m → m < w .closing →
+      Reads (λ i. readyOf (w .opening) (batchOf w i)) (unreadAt w choice after m) m (w .count) (getD after (m - w .opening) 0)
+  pub later : (e : ℕ) → spanOf w ≤ e → getD after e 0 ≡ getD before e 0
+
+-- the outcome of position i after a week's log, as `outcomeNumbers` has it: 0 0 set aside, 1 and the minute after its last, 2 and
+-- the minutes left
+abbrev pub outcomeSaid : Week → List ℕ → List ℕ → ℕ → List ℕ
+outcomeSaid w choice log i =
+    let cost = chosenRecipe w choice i .cost in
+    cond (eqb cost 0) (0 ∷ 0 ∷ [])
+    (cond (leb cost (entries i log)) (1 ∷ (w .opening + upToLast i log) ∷ []) (2 ∷ (cost - entries i log) ∷ []))
+
+-- 01: "For each batch the run answers one of: ..", of the log that is left: each part of the answer
+pub record LogSays (w : Week) (choice log : List ℕ) (answer : WeekRun) : Type 0 where
+  pub idle : answer .idle ≡ entries 0 (take (spanOf w) log)
+  pub changes : answer .changes ≡ changes (take (spanOf w) log)
+  pub outcome : (i : ℕ) → 1 ≤ i → i ≤ w .count →
+      outcomeNumbers (atPosition setAside (answer .batches) i .outcome) ≡ outcomeSaid w choice (take (spanOf w) log) i
+  pub beyond : (i : ℕ) → w .count < i → atPosition setAside (answer .batches) i ≡ setAside
+
+-- demand 3: "the minutes each batch gets before its stretch ends number exactly its recipe's minutes". No stretch ends after the
+-- close, so these are minutes of the week.
+abbrev pub InTime : Week → List ℕ → List ℕ → Type 0
+InTime w choice log =
+    (i : ℕ) → 1 ≤ i → i ≤ w .count →
+    minutesBefore (stretchAt (jobListOf w) choice (w .closing) i .end) (w .opening) log i ≡ chosenRecipe w choice i .cost

@@ -2,3 +2,4 @@
 pub mod check;
 pub mod choose;
 pub mod job;
+pub mod run;

@@ -6,12 +6,13 @@ use native.Mathlib.Omega.{arith}
 use mathlib.Core.Path.{_≡_, sym, ap, ap₂, _∙_}
 use mathlib.Core.List.{List, _++_}
 use lib.ListN.{length, getD, take, drop, List·getD-append}
-use lib.Seq.{getD-append-add, getD-take, getD-drop, take-at}
+use lib.Seq.{getD-append-add, getD-take, take-at}
 use Rattle.jobs.specs.declared.model.Job.{Job}
 use Rattle.jobs.specs.declared.model.JobList.{JobList}
 use Rattle.jobs.specs.Model.{noJob, backward, jobsOf}
 use Rattle.jobs.specs.Best.{pick}
 use Rattle.jobs.proofs.Places.{length-backward, tabulate-from}
+use Rattle.jobs.proofs.Front.{later-kept}
 use Rattle.select.specs.Table.{picks, filled, entryAt}
 use Rattle.select.proofs.Picks.{length-picks}
 
@@ -78,6 +79,4 @@ module _ (list : JobList) (t w : ℕ) (table : List ℕ) where
 
   -- "Later bytes of the table keep their values."
   pub filled-later : (e : ℕ) → list .count * w ≤ e → getD (filled (jobsOf list) t w table) e 0 ≡ getD table e 0
-  filled-later e later =
-      let at : list .count * w + (e - list .count * w) ≡ e = omega arith in
-      rw (filled-rows, ← at, ← size, getD-append-add, getD-drop)
+  filled-later e later = rw filled-rows (later-kept (picks (jobsOf list) t w) table (list .count * w) size 0 e later)

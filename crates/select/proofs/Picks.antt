@@ -1,15 +1,15 @@
 -- The rows of picks in a table: how long they are, and one row more.
 use Prim.Native.Nat.{ℕ, _*_, _≤_}
 use native.Mathlib.Nat.{zero-mul, suc-mul}
-use native.Mathlib.Omega.{arith}
 use mathlib.Core.Path.{_≡_, sym, _∙_}
 use mathlib.Core.List.{List, [], _∷_, _++_, append-assoc}
-use lib.ListN.{length, take, drop, length-append, length-drop}
+use lib.ListN.{length, take, drop, length-append}
 use lib.Seq.{take-at, drop-at, drop-drop}
 use Rattle.jobs.specs.declared.model.Job.{Job}
 use Rattle.jobs.specs.Model.{tabulate}
 use Rattle.jobs.specs.Best.{pick}
 use Rattle.jobs.proofs.Places.{length-tabulate}
+use Rattle.jobs.proofs.Front.{length-kept}
 use Rattle.select.specs.Table.{picks, filled}
 
 pub length-picks : (js : List Job) (t w : ℕ) → length (picks js t w) ≡ length js * w
@@ -19,7 +19,7 @@ length-picks (j ∷ js) t w = rw (length-append, length-tabulate, length-picks j
 pub length-filled : (js : List Job) (t w : ℕ) (table : List ℕ) → length js * w ≤ length table →
     length (filled js t w table) ≡ length table
 unfolding filled
-length-filled js t w table long = simp (length-append, length-picks, length-drop) (omega arith)
+length-filled js t w table long = length-kept (picks js t w) table (length js * w) (length-picks js t w) long
 
 pub filled-none : (t w : ℕ) (table : List ℕ) → filled [] t w table ≡ table
 unfolding filled

@@ -14,7 +14,7 @@ use Rattle.jobs.specs.declared.rule.Stretch.{Stretch}
 use Rattle.jobs.specs.Model.{maxJobs, maxVersions, noJob, versionOf, backward, forward, jobsOf}
 use Rattle.jobs.specs.Rule.{stretchOf, fits, nextBound}
 use Rattle.jobs.specs.Best.{best, pick}
-use Rattle.jobs.proofs.Places.{drop-replicate}
+use Rattle.jobs.proofs.Places.{length-forward, drop-replicate}
 use Rattle.jobs.proofs.Rules.{bound-in}
 use Rattle.jobs.proofs.Demand.{best-some}
 use Rattle.jobs.proofs.Parts.{Parts, pick-none, pick-some}
@@ -64,7 +64,9 @@ trace-start {list} {close = close} readable =
     by-best : (o : Option (List ℕ)) → best (jobsOf list) close ≡ o → bestChoice o ≡ completed (replicate maxJobs 0) (list .count) o
     by-best none e = refl
     by-best (some ks) e =
-        let size : length ks ≡ list .count = length-choice list ks (best-some (jobsOf list) close ks e .valid) in
+        let size : length (forward ks) ≡ list .count =
+        length-forward ks ∙ length-choice list ks (best-some (jobsOf list) close ks e .valid)
+        in
         rw (size, drop-replicate {A = ℕ} (list .count) maxJobs 0 (readable .fillable .most))
 
 module _

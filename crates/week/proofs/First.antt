@@ -5,11 +5,13 @@ use native.Mathlib.Numerals.{add-one}
 use native.Mathlib.Decide.{ℕ-discrete}
 use native.Mathlib.Omega.{arith}
 use mathlib.Core.Path.{_≡_, refl, ap, sym, _∙_}
+use mathlib.Core.Logic.{_↔_}
 use mathlib.Core.Bool.{Bool, true, false}
 use mathlib.Core.List.{List, [], _∷_, _++_}
-use borrow.Author.Tests.{eq-eqb, ne-eqb}
+use lib.Dec.{ltb}
+use borrow.Author.Tests.{eq-eqb, ne-eqb, lt-ltb, le-ltb, ltb-false}
 use Rattle.week.specs.declared.refusal.Refusal.{Refusal}
-use Rattle.week.specs.Refusal.{accepted, refused, refusedIf, orElse, firstOf, first}
+use Rattle.week.specs.Refusal.{accepted, refused, refusedIf, orElse, firstOf, first, shortFault, unlessRefused}
 
 pub number-of : {a b : Refusal} → a ≡ b → a .number ≡ b .number
 number-of e = ap (λ (r : Refusal). r .number) e
@@ -70,6 +72,41 @@ refusedIf-none number place recipe false h = refl
 pub refusedIf-proper : (number place recipe : ℕ) (holds : Bool) → Proper (refusedIf (suc number) place recipe holds)
 refusedIf-proper number place recipe holds h = refusedIf-false (suc number) place recipe (refusedIf-none number place recipe holds h)
 
+-- ---- of a lent slice
+pub short-refuses : (number : ℕ) {needed size : ℕ} → size < needed → shortFault number needed size ≡ refused number 0 0
+unfolding shortFault
+short-refuses number l = refusedIf-true number 0 0 (lt-ltb _ _ l)
+
+pub long-passes : (number needed size : ℕ) → (shortFault (suc number) needed size ≡ accepted) ↔ (needed ≤ size)
+unfolding shortFault
+long-passes number needed size = (
+  λ e. ltb-false _ _ (refusedIf-none number 0 0 (ltb size needed) (number-of e)),
+  λ l. refusedIf-false (suc number) 0 0 (le-ltb _ _ l),
+)
+
+pub short-proper : (number needed size : ℕ) → Proper (shortFault (suc number) needed size)
+unfolding shortFault
+short-proper number needed size = refusedIf-proper number 0 0 (ltb size needed)
+
+-- ---- of an answer
+module _ {A : Type 0} (fault : Refusal) (passed other : A) where
+  pub unless-passed : fault .number ≡ 0 → unlessRefused fault passed other ≡ passed
+  unfolding unlessRefused
+  unless-passed z = rw (eq-eqb (fault .number) 0 z)
+
+  pub unless-refused : (fault .number ≡ 0 → ⊥) → unlessRefused fault passed other ≡ other
+  unfolding unlessRefused
+  unless-refused n = rw (ne-eqb (fault .number) 0 n)
+
+  -- an answer whose refusal is none where it passes, and the fault where it does not, names the fault
+  pub unless-names : (refusalOf : A → Refusal) → refusalOf passed ≡ accepted → refusalOf other ≡ fault → Proper fault →
+      refusalOf (unlessRefused fault passed other) ≡ fault
+  unless-names refusalOf none named proper =
+      elim (ℕ-discrete (fault .number) 0) [
+        | yes z ↦ ap refusalOf (unless-passed z) ∙ none ∙ sym (proper z)
+        | no n ↦ ap refusalOf (unless-refused n) ∙ named
+      ]
+
 -- ---- of a list
 module _ (r : Refusal) (rs : List Refusal) where
   pub firstOf-here : (r .number ≡ 0 → ⊥) → firstOf (r ∷ rs) ≡ r
@@ -102,6 +139,10 @@ unfolding firstOf orElse
 firstOf-append [] ys = refl
 firstOf-append (x ∷ xs) ys = ap (orElse x) (firstOf-append xs ys) ∙ sym (or-assoc x (firstOf xs) (firstOf ys))
 
+-- where none of a list refuses, none of its last part does
+pub append-none : (xs ys : List Refusal) → firstOf (xs ++ ys) .number ≡ 0 → firstOf ys .number ≡ 0
+append-none xs ys h = or-none (firstOf xs) (firstOf ys) (number-of (sym (firstOf-append xs ys)) ∙ h) .1
+
 -- ---- of f i, f (i + 1), ..
 module _ (f : ℕ → Refusal) where
   pub first-proper : (i m : ℕ) → Proper (first f i m)
@@ -121,6 +162,17 @@ module _ (f : ℕ → Refusal) where
 
   pub first-none : (n : ℕ) → first f 0 n .number ≡ 0 → (i : ℕ) → i < n → f i .number ≡ 0
   first-none n h i l = none-from 0 n h i (omega arith) (omega arith)
+
+  from-none : (i m : ℕ) → ((j : ℕ) → i ≤ j → j < i + m → f j .number ≡ 0) → first f i m ≡ accepted
+  unfolding first
+  from-none i zero each = refl
+  from-none i (suc m) each =
+      or-second (f i) (first f (suc i) m) (each i (omega arith) (omega arith))
+      ∙ from-none (suc i) m (λ j l u. each j (omega arith) (omega arith))
+
+  -- and the other way round
+  pub none-first : (n : ℕ) → ((i : ℕ) → i < n → f i .number ≡ 0) → first f 0 n ≡ accepted
+  none-first n each = from-none 0 n (λ i l u. each i (omega arith))
 
   -- from i on, below n
   module _ (i n : ℕ) where

@@ -1,16 +1,18 @@
 -- What is known of a list, and of a choice, that is not refused.
 use Prim.Native.Nat.{ℕ, suc, _-_, _<_, _≤_}
 use native.Mathlib.Omega.{arith}
-use mathlib.Core.Path.{_≡_, refl, _∙_}
-use mathlib.Core.Bool.{Bool, true, false, _||_, true≢false}
+use mathlib.Core.Path.{_≡_, refl, ap, ap₂, _∙_}
+use mathlib.Core.Bool.{Bool, true, false, _||_, not, true≢false}
 use mathlib.Core.List.{List}
 use lib.ListN.{length, getD}
 use lib.Dec.{ltb, eqb}
-use borrow.Author.Tests.{eqb-true, eqb-false, ltb-false, leb-false, not-false}
+use borrow.Author.Tests.{eqb-true, eqb-false, eq-eqb, ne-eqb, ltb-false, le-ltb, leb-false, not-false}
 use Rattle.week.specs.declared.record.Week.{Week}
 use Rattle.week.specs.Record.{maxMinutes, maxBatches, maxRecipes, batchAt}
+use Rattle.week.specs.Refusal.{accepted}
 use Rattle.week.specs.Fault.{weekFault, countFault, batchFault, listFault, nameFault, choiceFault}
-use Rattle.week.proofs.First.{firstOf-none, first-none, refusedIf-none}
+use Rattle.week.proofs.First.{number-of, refusedIf-none, refusedIf-false, firstOf-none, firstOf-last}
+use Rattle.week.proofs.First.{first-none, first-proper, none-first}
 
 -- n is from 1 to m
 abbrev FromOne : ℕ → ℕ → Type 0
@@ -85,3 +87,17 @@ named w choice h =
       low = λ i l. names w choice h i l .0;
       high = λ i l. names w choice h i l .1;
     }
+
+-- and the other way round
+pub well-chosen : (w : Week) {choice : List ℕ} → Named w choice → choiceFault w choice ≡ accepted
+unfolding choiceFault nameFault
+well-chosen w {choice} h =
+    firstOf-last _ _ (number-of (refusedIf-false 13 0 0 (ap not (eq-eqb _ _ (h .whole)))))
+    (first-proper (nameFault w choice) 0 (w .count))
+    ∙ none-first (nameFault w choice) (w .count) names-one
+  where
+    names-one : (i : ℕ) → i < w .count → nameFault w choice i .number ≡ 0
+    names-one i l =
+        number-of
+        (refusedIf-false 13 (suc i) 0
+        (ap₂ _||_ (ne-eqb (getD choice i 0) 0 (λ z. omega (arith, h .low i l))) (le-ltb _ _ (h .high i l))))

@@ -9,7 +9,7 @@ use lib.Dec.{ltb, leb, eqb}
 use Rattle.week.specs.declared.record.Batch.{Batch}
 use Rattle.week.specs.declared.record.Week.{Week}
 use Rattle.week.specs.declared.refusal.Refusal.{Refusal}
-use Rattle.week.specs.Record.{maxMinutes, maxBatches, maxRecipes, batchAt, recipeAt, before}
+use Rattle.week.specs.Record.{maxMinutes, maxBatches, maxRecipes, batchAt, recipeAt, spanOf, before}
 use Rattle.week.specs.Refusal.{accepted, refusedIf, firstOf, first}
 
 -- "1: c is not after t. 2: c − t is above 2,400. 3: more than 16 batches."
@@ -17,7 +17,7 @@ unfoldable pub weekFault : Week → Refusal
 weekFault w =
     firstOf
     (refusedIf 1 0 0 (leb (w .closing) (w .opening))
-    ∷ refusedIf 2 0 0 (ltb maxMinutes (w .closing - w .opening))
+    ∷ refusedIf 2 0 0 (ltb maxMinutes (spanOf w))
     ∷ refusedIf 3 0 0 (ltb maxBatches (w .count))
     ∷ [])
 

@@ -1,10 +1,10 @@
 -- The records that the desk hands in: document 01, "What the planner holds".
-use Prim.Native.Nat.{ℕ, max}
+use Prim.Native.Nat.{ℕ, _-_, max}
 use mathlib.Core.Bool.{Bool, cond}
 use mathlib.Core.List.{[]}
 use lib.ListN.{getD, replicate}
 use lib.Dec.{ltb, eqb}
-use Rattle.jobs.specs.Model.{maxJobs, maxSpan, maxVersions}
+use Rattle.jobs.specs.Model.{maxJobs, maxSpan, maxVersions, atPosition}
 use Rattle.week.specs.declared.record.Recipe.{Recipe}
 use Rattle.week.specs.declared.record.Batch.{Batch}
 use Rattle.week.specs.declared.record.Week.{Week}
@@ -39,6 +39,17 @@ batchAt w i = getD (w .batches) i noBatch
 
 abbrev pub recipeAt : Batch → ℕ → Recipe
 recipeAt b k = getD (b .recipes) k noRecipe
+
+-- the same by position and by number, from 1
+abbrev pub batchOf : Week → ℕ → Batch
+batchOf w i = atPosition noBatch (w .batches) i
+
+abbrev pub recipeOf : Batch → ℕ → Recipe
+recipeOf b k = atPosition noRecipe (b .recipes) k
+
+-- the minutes from t to c − 1
+abbrev pub spanOf : Week → ℕ
+spanOf w = w .closing - w .opening
 
 -- "A batch's ready minute s is the greater of t and r."
 abbrev pub readyOf : ℕ → Batch → ℕ

@@ -2,7 +2,7 @@
 use Prim.Native.Nat.{ℕ, zero, suc}
 use mathlib.Core.Bool.{Bool, cond}
 use mathlib.Core.List.{List, [], _∷_}
-use lib.Dec.{eqb}
+use lib.Dec.{ltb, eqb}
 use Rattle.week.specs.declared.refusal.Refusal.{Refusal}
 
 abbrev pub accepted : Refusal
@@ -29,3 +29,11 @@ firstOf (r ∷ rs) = orElse r (firstOf rs)
 unfoldable pub first : (ℕ → Refusal) → ℕ → ℕ → Refusal
 first f i zero = accepted
 first f i (suc m) = orElse (f i) (first f (suc i) m)
+
+-- of a lent slice: 11, 12 and 19 are each about one that is shorter than is needed
+unfoldable pub shortFault : ℕ → (needed size : ℕ) → Refusal
+shortFault number needed size = refusedIf number 0 0 (ltb size needed)
+
+-- what an operation answers, or leaves in lent memory, where it does not refuse and where it does
+unfoldable pub unlessRefused : {A : Type 0} → Refusal → A → A → A
+unlessRefused fault passed refused = cond (eqb (fault .number) 0) passed refused

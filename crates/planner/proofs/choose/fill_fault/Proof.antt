@@ -4,9 +4,10 @@ use native.Mathlib.Nat.{mul-le-mul-right}
 use mathlib.Core.Path.{_≡_, sym, _∙_}
 use borrow.Author.Needs.{needs}
 use Rattle.week.specs.Fault.{listFault}
-use Rattle.week.proofs.First.{number-of, refuses-too}
+use Rattle.week.proofs.First.{number-of, refuses-too, short-refuses}
 use Rattle.week.proofs.Sound.{Sound, sound}
-use Rattle.planner.proofs.Choosing.{fault-list, fault-table, table-short, long-enough}
+use Rattle.planner.specs.Choose.{tableFault}
+use Rattle.planner.proofs.Choosing.{fault-list, fault-table, long-enough}
 use Rattle.planner.proofs.choose.fill_fault.Statement.{statement}
 use Rattle.planner.proofs.choose.fill_fault.Tie as tie
 
@@ -38,11 +39,12 @@ at-requires : tie.Need-at-requires
 at-requires c κs = search needs
 
 returns-2 : tie.Need-returns-2
+unfolding tableFault
 returns-2 c =
     let less = c .before in
     let width = less .before .before in
     c .at .ensures
-    ∙ sym (fault-table _ _ (passed-list (width .before)) ∙ table-short _ _ (rw (width .row-width .ensures) at (less .if2 .taken)))
+    ∙ sym (fault-table _ _ (passed-list (width .before)) ∙ short-refuses 11 (rw (width .row-width .ensures) at (less .if2 .taken)))
 
 none-requires : tie.Need-none-requires
 none-requires c κs = search needs

@@ -1,0 +1,12 @@
+pub mod Open
+pub mod Logs
+pub mod RunLoop
+pub mod Counts
+pub mod Scans
+pub mod Workloads
+pub mod Left
+pub mod Sums
+pub mod RunTheorem
+pub mod Stretches
+pub mod InTime
+pub mod Finished

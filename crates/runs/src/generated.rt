@@ -1,0 +1,175 @@
+// Generated weeks, of up to 16 batches and mostly of up to 48 minutes, with a choice and a log. Their lists are well formed.
+use crate::case::Case;
+use crate::case::NONE;
+use crate::case::PLACES;
+use crate::case::with_place;
+use crate::chance::below;
+use crate::judge::judge;
+use crate::tally::Tally;
+use week::record::Week;
+ghost use Prim.Native.Nat.{_≤_, _<_};
+
+const WEEKS: u16 = 4000;
+
+// The minutes of a week: now and then as many as it may have.
+fn span(week: u16) -> u16
+    ensures { λ r. ⌜ (1 ≤ r) × (r ≤ 2400) ⌝ }
+{
+    if below(week, 0, 0, 32) == 0 {
+        return 1 + below(week, 0, 1, Week::MAX_MINUTES);
+    }
+    1 + below(week, 0, 1, 48)
+}
+
+fn batches(week: u16) -> u16
+    ensures { λ r. ⌜ r ≤ 16 ⌝ }
+{
+    below(week, 0, 2, 17)
+}
+
+fn opening(week: u16) -> u16
+    ensures { λ r. ⌜ r < 58000 ⌝ }
+{
+    if below(week, 0, 3, 4) == 0 {
+        return 0;
+    }
+    below(week, 0, 4, 58000)
+}
+
+// Twice the minutes that a batch has for its own, and one.
+fn double_share(week: u16) -> u16
+    ensures { λ r. ⌜ (1 ≤ r) × (r ≤ 4801) ⌝ }
+{
+    span(week) * 2 / (batches(week) + 1) + 1
+}
+
+// The minute after which the first batch is due. It can be due before the opening.
+fn first(week: u16) -> u16 {
+    let t = opening(week);
+    let by = below(week, 0, 8, span(week) + 8);
+    if t < 8 {
+        return by;
+    }
+    t - 8 + by
+}
+
+// A due minute after another, as far as minutes go.
+fn later(due: u16, by: u16) -> u16 {
+    if by < 65535 - due {
+        due + by + 1
+    } else {
+        65535
+    }
+}
+
+// An arrival before the batch is due and before the close, and often before the opening.
+fn arrival(week: u16, place: u16, due: u16, closing: u16) -> u16 {
+    let before = if due < closing { due } else { closing };
+    let back = 1 + below(week, place, 3, span(week) + 4);
+    if back < before { before - back } else { 0 }
+}
+
+// Now and then far more minutes than a week has.
+fn cost(week: u16, place: u16) -> u16
+    ensures { λ r. ⌜ 1 ≤ r ⌝ }
+{
+    if below(week, place, 1, 64) == 0 {
+        return 65535 - below(week, place, 2, 1000);
+    }
+    1 + below(week, place, 2, double_share(week))
+}
+
+fn recipes(week: u16, place: u16) -> u16
+    ensures { λ r. ⌜ (1 ≤ r) × (r ≤ 2) ⌝ }
+{
+    1 + below(week, place, 0, 2)
+}
+
+// The second cost: set aside, or some minutes of the first.
+fn second(week: u16, place: u16, first: u16) -> u16
+    requires { ⌜ 1 ≤ first ⌝ }
+{
+    if recipes(week, place) == 1 {
+        return NONE;
+    }
+    if below(week, place, 4, 3) == 0 {
+        return 0;
+    }
+    1 + below(week, place, 5, first)
+}
+
+// A recipe of the batch, and now and then one that it has not got.
+fn recipe(week: u16, place: u16) -> u16 {
+    let n = recipes(week, place);
+    match below(week, place, 7, 256) {
+        0 => 0,
+        1 => n + 1,
+        2 => 255,
+        _ => 1 + below(week, place, 8, n),
+    }
+}
+
+// Its number is no position.
+fn place(week: u16, place: u16, due: u16, closing: u16) -> [u16; 6]
+    requires { ⌜ place ≤ 17 ⌝ }
+{
+    let first = cost(week, place);
+    let r = arrival(week, place, due, closing);
+    [
+        40 - place,
+        r,
+        due,
+        first,
+        second(week, place, first),
+        recipe(week, place),
+    ]
+}
+
+// The length of the choice: now and then another than the list has.
+fn named(week: u16) -> u16 {
+    let n = batches(week);
+    match below(week, 0, 5, 32) {
+        0 => n + 1,
+        1 => n / 2,
+        _ => n,
+    }
+}
+
+// The bytes of the log: now and then too few.
+fn size(week: u16) -> u16 {
+    if below(week, 0, 6, 12) == 0 {
+        return below(week, 0, 7, span(week));
+    }
+    span(week) + below(week, 0, 7, 4)
+}
+
+// The case before its places.
+fn head(week: u16) -> Case {
+    let opening = opening(week);
+    Case {
+        opening,
+        closing: opening + span(week),
+        count: batches(week),
+        named: named(week),
+        size: size(week),
+        places: [0; PLACES],
+    }
+}
+
+fn case_of(week: u16) -> Case {
+    let mut c = head(week);
+    let mut due = first(week);
+    for i in 0..17u16 {
+        due = later(due, below(week, i + 1, 6, double_share(week)));
+        c = with_place(c, i as usize, place(week, i + 1, due, c.closing));
+    }
+    c
+}
+
+pub fn judge_all() -> Tally {
+    let mut tally = Tally::empty();
+    for week in 0..WEEKS {
+        tally = judge(tally, case_of(week));
+    }
+    tally
+}
