@@ -1,185 +1,188 @@
 // Document 01's examples of the run, and the edges of its text and of its refusals.
 use crate::case::Case;
 use crate::case::NONE;
-use crate::case::PLACES;
-use crate::case::with_place;
+use crate::case::Place;
 use crate::judge::judge;
+use crate::reckon::between;
 use crate::show::show;
 use crate::tally::Tally;
 
-// Opening, closing, batches, recipes named and bytes of the log, and two places.
-fn pair(n: [u16; 17]) -> Case {
-    let mut places = [0; PLACES];
-    for k in 5..17usize {
-        places[k - 5] = n[k];
-    }
-    Case {
-        opening: n[0],
-        closing: n[1],
-        count: n[2],
-        named: n[3],
-        size: n[4],
-        places,
+// A batch with one recipe.
+fn one(number: u16, arrival: u16, due: u16, cost: u16) -> Place {
+    Place {
+        number,
+        arrival,
+        due,
+        cost,
+        less: NONE,
     }
 }
 
-fn show_pair(name: &[u8], n: [u16; 17]) {
-    show(name, pair(n));
+// Two batches, recipe 1 of each, and a log with a byte past the week.
+fn pair(opening: u16, closing: u16, first: Place, second: Place) -> Case {
+    let mut c = Case {
+        opening,
+        closing,
+        count: 2,
+        named: 2,
+        size: between(opening, closing) + 1,
+        places: [second; 17],
+        recipes: [1; 17],
+    };
+    c.places[0] = first;
+    c
 }
 
-// D: case W with its plan, and a byte past the week.
-fn d() -> Case {
-    let w = pair([0, 100, 3, 3, 101, 7, 0, 40, 30, 10, 2, 8, 20, 60, 30, 0, 1]);
-    with_place(w, 2, [9, 0, 100, 50, 20, 1])
+// D: case W with its plan.
+fn case_w() -> Case {
+    let seven = Place {
+        number: 7,
+        arrival: 0,
+        due: 40,
+        cost: 30,
+        less: 10,
+    };
+    let eight = Place {
+        number: 8,
+        arrival: 20,
+        due: 60,
+        cost: 30,
+        less: 0,
+    };
+    let mut c = pair(0, 100, seven, eight);
+    c.places[2] = Place {
+        number: 9,
+        arrival: 0,
+        due: 100,
+        cost: 50,
+        less: 20,
+    };
+    c.recipes[0] = 2;
+    c.count = 3;
+    c.named = 3;
+    c
 }
 
-fn j() -> Case {
-    pair([0, 10, 2, 2, 11, 1, 5, 9, 4, NONE, 1, 2, 0, 10, 5, NONE, 1])
+fn case_j() -> Case {
+    pair(0, 10, one(1, 5, 9, 4), one(2, 0, 10, 5))
 }
 
 // D and J against the second reckoning, every byte of the log included.
 pub fn judge_both() -> Tally {
-    judge(judge(Tally::empty(), d()), j())
+    judge(judge(Tally::empty(), case_w()), case_j())
+}
+
+// The first batch is late, and goes on.
+fn late() -> Case {
+    pair(0, 4, one(1, 0, 2, 3), one(2, 0, 4, 3))
+}
+
+// The first batch is set aside.
+fn aside() -> Case {
+    let first = Place {
+        number: 1,
+        arrival: 0,
+        due: 3,
+        cost: 2,
+        less: 0,
+    };
+    let mut c = pair(0, 4, first, one(2, 1, 4, 2));
+    c.recipes[0] = 2;
+    c
+}
+
+fn empty() -> Case {
+    let mut c = late();
+    c.count = 0;
+    c.named = 0;
+    c
 }
 
 // What becomes of a batch.
 pub fn batches() {
-    show(b"D", d());
-    show(b"J", j());
-    show_pair(
-        b"a late batch goes on",
-        [0, 4, 2, 2, 5, 1, 0, 2, 3, NONE, 1, 2, 0, 4, 3, NONE, 1],
-    );
-    show_pair(
+    show(b"D", case_w());
+    show(b"J", case_j());
+    show(b"a late batch goes on", late());
+    show(
         b"a batch gives way",
-        [0, 6, 2, 2, 7, 1, 2, 4, 2, NONE, 1, 2, 0, 6, 3, NONE, 1],
+        pair(0, 6, one(1, 2, 4, 2), one(2, 0, 6, 3)),
     );
-    show_pair(
-        b"one is set aside",
-        [0, 4, 2, 2, 5, 1, 0, 3, 2, 0, 2, 2, 1, 4, 2, NONE, 1],
-    );
-    show_pair(
+    show(b"one is set aside", aside());
+    show(
         b"one ends with the week, one is never read",
-        [0, 3, 2, 2, 4, 1, 0, 3, 3, NONE, 1, 2, 0, 4, 2, NONE, 1],
+        pair(0, 3, one(1, 0, 3, 3), one(2, 0, 4, 2)),
     );
-    show_pair(
+    show(
         b"the greatest costs",
-        [
-            0,
-            3,
-            2,
-            2,
-            4,
-            1,
-            2,
-            3,
-            65535,
-            NONE,
-            1,
-            2,
-            0,
-            4,
-            65535,
-            NONE,
-            1,
-        ],
+        pair(0, 3, one(1, 2, 3, 65535), one(2, 0, 4, 65535)),
     );
 }
 
 // What becomes of a week.
 pub fn weeks() {
-    show_pair(
-        b"no batches",
-        [0, 4, 0, 0, 5, 1, 0, 2, 3, NONE, 1, 2, 0, 4, 3, NONE, 1],
-    );
-    show_pair(
+    show(b"no batches", empty());
+    show(
         b"numbers that are no positions",
-        [0, 3, 2, 2, 4, 9, 0, 2, 1, NONE, 1, 4, 0, 3, 1, NONE, 1],
+        pair(0, 3, one(9, 0, 2, 1), one(4, 0, 3, 1)),
     );
-    show_pair(
+    show(
         b"opens at 20",
-        [20, 25, 2, 2, 6, 1, 5, 20, 1, NONE, 1, 2, 22, 25, 2, NONE, 1],
+        pair(20, 25, one(1, 5, 20, 1), one(2, 22, 25, 2)),
     );
-    show_pair(
+    show(
         b"the last minute of 2,400",
-        [
+        pair(
             63135,
             65535,
-            2,
-            2,
-            2400,
-            1,
-            65534,
-            65535,
-            1,
-            NONE,
-            1,
-            2,
-            65534,
-            65535,
-            1,
-            NONE,
-            1,
-        ],
+            one(1, 65534, 65535, 1),
+            one(2, 65534, 65535, 1),
+        ),
     );
 }
 
-// The late batch with other logs: 12, and the bytes past the week.
+fn sized(name: &[u8], c: Case, size: u16) {
+    let mut other = c;
+    other.size = size;
+    show(name, other);
+}
+
+// 12, and the bytes past the week.
 pub fn logs() {
-    show_pair(
-        b"a log of just enough",
-        [0, 4, 2, 2, 4, 1, 0, 2, 3, NONE, 1, 2, 0, 4, 3, NONE, 1],
-    );
-    show_pair(
-        b"one byte too few",
-        [0, 4, 2, 2, 3, 1, 0, 2, 3, NONE, 1, 2, 0, 4, 3, NONE, 1],
-    );
-    show_pair(
-        b"four bytes more",
-        [0, 4, 2, 2, 8, 1, 0, 2, 3, NONE, 1, 2, 0, 4, 3, NONE, 1],
-    );
-    show_pair(
-        b"no batches, no log",
-        [0, 4, 0, 0, 0, 1, 0, 2, 3, NONE, 1, 2, 0, 4, 3, NONE, 1],
-    );
+    sized(b"a log of just enough", late(), 4);
+    sized(b"one byte too few", late(), 3);
+    sized(b"four bytes more", late(), 8);
+    sized(b"no batches, no log", empty(), 0);
 }
 
-// The late batch with other choices: 13.
+// The late batch with another choice.
+fn choosing(name: &[u8], named: u16, first: u8, second: u8) {
+    let mut c = late();
+    c.named = named;
+    c.recipes[0] = first;
+    c.recipes[1] = second;
+    show(name, c);
+}
+
+// 13.
 pub fn choices() {
-    show_pair(
-        b"one recipe for two batches",
-        [0, 4, 2, 1, 5, 1, 0, 2, 3, NONE, 1, 2, 0, 4, 3, NONE, 1],
-    );
-    show_pair(
-        b"three recipes for two batches",
-        [0, 4, 2, 3, 5, 1, 0, 2, 3, NONE, 1, 2, 0, 4, 3, NONE, 1],
-    );
-    show_pair(
-        b"no recipe for batch 2",
-        [0, 4, 2, 2, 5, 1, 0, 2, 3, NONE, 1, 2, 0, 4, 3, NONE, 0],
-    );
-    show_pair(
-        b"recipe 2 of 1 for both",
-        [0, 4, 2, 2, 5, 1, 0, 2, 3, NONE, 2, 2, 0, 4, 3, NONE, 2],
-    );
+    choosing(b"one recipe for two batches", 1, 1, 1);
+    choosing(b"three recipes for two batches", 3, 1, 1);
+    choosing(b"no recipe for batch 2", 2, 1, 0);
+    choosing(b"recipe 2 of 1 for both", 2, 2, 2);
 }
 
 // The list, then 13, then 12.
 pub fn order() {
-    show_pair(
+    show(
         b"closes as it opens",
-        [4, 4, 0, 0, 1, 1, 0, 2, 3, NONE, 1, 2, 0, 4, 3, NONE, 1],
+        pair(4, 4, one(1, 0, 2, 3), one(2, 0, 4, 3)),
     );
-    show_pair(
-        b"number 0",
-        [0, 4, 2, 2, 5, 0, 0, 2, 3, NONE, 1, 2, 0, 4, 3, NONE, 1],
-    );
-    show_pair(
-        b"number 0, no choice, one byte too few",
-        [0, 4, 2, 0, 3, 0, 0, 2, 3, NONE, 1, 2, 0, 4, 3, NONE, 1],
-    );
-    show_pair(
-        b"recipe 2 of 1 for batch 2, one byte too few",
-        [0, 4, 2, 2, 3, 1, 0, 2, 3, NONE, 1, 2, 0, 4, 3, NONE, 2],
-    );
+    let numberless = pair(0, 4, one(0, 0, 2, 3), one(2, 0, 4, 3));
+    show(b"number 0", numberless);
+    let mut c = numberless;
+    c.named = 0;
+    sized(b"number 0, no choice, one byte too few", c, 3);
+    let mut d = late();
+    d.named = 0;
+    sized(b"no choice, one byte too few", d, 3);
 }

@@ -1,7 +1,6 @@
 // All lists of two batches in the week of 1 to 6, where a batch with its recipe is one of 144.
 use crate::case::Case;
-use crate::case::PLACES;
-use crate::case::with_place;
+use crate::case::Place;
 use crate::judge::judge;
 use crate::tally::Tally;
 ghost use Prim.Native.Nat.{_+_, _≤_};
@@ -21,25 +20,37 @@ fn due_of(after: u16, kind: u16) -> u16
     after + more
 }
 
-// Arrival 0 to 5; 1 to 6 minutes, or half of them.
-fn place(number: u16, due: u16, kind: u16) -> [u16; 6] {
+// Arrival 0 to 5, 1 to 6 minutes, and half of them.
+fn place_of(number: u16, due: u16, kind: u16) -> Place {
     let cost = 1 + kind / 6 % 6;
-    [number, kind % 6, due, cost, cost / 2, 1 + kind / 36 % 2]
+    Place {
+        number,
+        arrival: kind % 6,
+        due,
+        cost,
+        less: cost / 2,
+    }
+}
+
+fn recipe(kind: u16) -> u8 {
+    (1 + kind / 36 % 2) as u8
 }
 
 // Batch numbers are no positions.
 fn case_of(first: u16, second: u16) -> Case {
-    let c = Case {
+    let due = due_of(0, first);
+    let mut c = Case {
         opening: 1,
         closing: 6,
         count: 2,
         named: 2,
         size: 6,
-        places: [0; PLACES],
+        places: [place_of(9, due, first); 17],
+        recipes: [recipe(first); 17],
     };
-    let due = due_of(0, first);
-    let one = with_place(c, 0, place(9, due, first));
-    with_place(one, 1, place(8, due_of(due, second), second))
+    c.places[1] = place_of(8, due_of(due, second), second);
+    c.recipes[1] = recipe(second);
+    c
 }
 
 // All lists with one first batch.

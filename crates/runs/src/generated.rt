@@ -1,8 +1,7 @@
 // Generated weeks, of up to 16 batches and mostly of up to 48 minutes, with a choice and a log. Their lists are well formed.
 use crate::case::Case;
 use crate::case::NONE;
-use crate::case::PLACES;
-use crate::case::with_place;
+use crate::case::Place;
 use crate::chance::below;
 use crate::judge::judge;
 use crate::tally::Tally;
@@ -11,7 +10,7 @@ ghost use Prim.Native.Nat.{_≤_, _<_};
 
 const WEEKS: u16 = 4000;
 
-// The minutes of a week: now and then as many as it may have.
+// The minutes of a week: now and then up to as many as it may have.
 fn span(week: u16) -> u16
     ensures { λ r. ⌜ (1 ≤ r) × (r ≤ 2400) ⌝ }
 {
@@ -28,19 +27,12 @@ fn batches(week: u16) -> u16
 }
 
 fn opening(week: u16) -> u16
-    ensures { λ r. ⌜ r < 58000 ⌝ }
+    ensures { λ r. ⌜ r < 52000 ⌝ }
 {
     if below(week, 0, 3, 4) == 0 {
         return 0;
     }
-    below(week, 0, 4, 58000)
-}
-
-// Twice the minutes that a batch has for its own, and one.
-fn double_share(week: u16) -> u16
-    ensures { λ r. ⌜ (1 ≤ r) × (r ≤ 4801) ⌝ }
-{
-    span(week) * 2 / (batches(week) + 1) + 1
+    below(week, 0, 4, 52000)
 }
 
 // The minute after which the first batch is due. It can be due before the opening.
@@ -76,7 +68,7 @@ fn cost(week: u16, place: u16) -> u16
     if below(week, place, 1, 64) == 0 {
         return 65535 - below(week, place, 2, 1000);
     }
-    1 + below(week, place, 2, double_share(week))
+    1 + below(week, place, 2, span(week) / 4 + 2)
 }
 
 fn recipes(week: u16, place: u16) -> u16
@@ -99,30 +91,28 @@ fn second(week: u16, place: u16, first: u16) -> u16
 }
 
 // A recipe of the batch, and now and then one that it has not got.
-fn recipe(week: u16, place: u16) -> u16 {
+fn recipe(week: u16, place: u16) -> u8 {
     let n = recipes(week, place);
     match below(week, place, 7, 256) {
         0 => 0,
-        1 => n + 1,
+        1 => (n + 1) as u8,
         2 => 255,
-        _ => 1 + below(week, place, 8, n),
+        _ => (1 + below(week, place, 8, n)) as u8,
     }
 }
 
 // Its number is no position.
-fn place(week: u16, place: u16, due: u16, closing: u16) -> [u16; 6]
+fn place_of(week: u16, place: u16, due: u16, closing: u16) -> Place
     requires { ⌜ place ≤ 17 ⌝ }
 {
     let first = cost(week, place);
-    let r = arrival(week, place, due, closing);
-    [
-        40 - place,
-        r,
+    Place {
+        number: 40 - place,
+        arrival: arrival(week, place, due, closing),
         due,
-        first,
-        second(week, place, first),
-        recipe(week, place),
-    ]
+        cost: first,
+        less: second(week, place, first),
+    }
 }
 
 // The length of the choice: now and then another than the list has.
@@ -146,13 +136,15 @@ fn size(week: u16) -> u16 {
 // The case before its places.
 fn head(week: u16) -> Case {
     let opening = opening(week);
+    let closing = opening + span(week);
     Case {
         opening,
-        closing: opening + span(week),
+        closing,
         count: batches(week),
         named: named(week),
         size: size(week),
-        places: [0; PLACES],
+        places: [place_of(week, 0, 1, closing); 17],
+        recipes: [0; 17],
     }
 }
 
@@ -160,8 +152,9 @@ fn case_of(week: u16) -> Case {
     let mut c = head(week);
     let mut due = first(week);
     for i in 0..17u16 {
-        due = later(due, below(week, i + 1, 6, double_share(week)));
-        c = with_place(c, i as usize, place(week, i + 1, due, c.closing));
+        due = later(due, below(week, i + 1, 6, span(week) / 4 + 2));
+        c.places[i as usize] = place_of(week, i + 1, due, c.closing);
+        c.recipes[i as usize] = recipe(week, i + 1);
     }
     c
 }

@@ -1,4 +1,4 @@
-// A log that is not written minute by minute: each position takes minutes that are free, and what is left is idle.
+// A log that is not written minute by minute: a position takes free minutes.
 use crate::answer::LOG;
 use crate::answer::MARK;
 ghost use Prim.Native.Nat.{_≤_};
@@ -6,19 +6,18 @@ ghost use Prim.Native.Nat.{_≤_};
 // How many minutes were taken, and how many there are up to the last of them.
 pub struct Taken {
     pub count: u16,
-    pub end: usize,
+    pub end: u16,
 }
 
 // A position takes the first free minutes from one to another, as many as it needs.
-pub fn take(log: &mut [u8; LOG], from: usize, to: usize, needed: u16, position: u8) -> Taken
+pub fn take(log: &mut [u8; LOG], from: u16, to: u16, needed: u16, position: u8) -> Taken
     requires { ⌜ to ≤ 2400 ⌝ }
-    ensures { λ r. ⌜ r .end ≤ 2400 ⌝ }
 {
     let mut count = 0;
     let mut end = 0;
     for m in from..to {
-        if count < needed && log[m] == MARK {
-            log[m] = position;
+        if count < needed && log[m as usize] == MARK {
+            log[m as usize] = position;
             count += 1;
             end = m + 1;
         }
@@ -26,30 +25,28 @@ pub fn take(log: &mut [u8; LOG], from: usize, to: usize, needed: u16, position: 
     Taken { count, end }
 }
 
-// The free minutes of a log, which are idle.
-pub fn idle(log: &mut [u8; LOG], to: usize) -> u64
-    requires { ⌜ to ≤ 2400 ⌝ }
-{
-    let mut count = 0;
-    for m in 0..to {
-        if log[m] == MARK {
-            log[m] = 0;
-            count += 1;
-        }
-    }
-    count
+// How many minutes are idle, and how many blocks of one position there are.
+pub struct Closed {
+    pub idle: u16,
+    pub blocks: u16,
 }
 
-// The blocks of one position. A block ends where the next minute has another entry, or is none.
-pub fn blocks(log: &[u8; LOG], to: usize) -> u64
+// What is free at the close is idle. A block starts where the entry is not the one before.
+pub fn close(log: &mut [u8; LOG], to: u16) -> Closed
     requires { ⌜ to ≤ 2400 ⌝ }
 {
-    let mut count = 0;
+    let mut idle = 0;
+    let mut blocks = 0;
+    let mut before = MARK;
     for m in 0..to {
-        let next = m + 1;
-        if log[m] != 0 && (next == to || log[next] != log[m]) {
-            count += 1;
+        let entry = log[m as usize];
+        if entry == MARK {
+            log[m as usize] = 0;
+            idle += 1;
+        } else if entry != before {
+            blocks += 1;
         }
+        before = entry;
     }
-    count
+    Closed { idle, blocks }
 }

@@ -3,125 +3,114 @@
 use crate::answer::ASIDE;
 use crate::answer::Answer;
 use crate::answer::FINISHED;
+use crate::answer::Fate;
 use crate::answer::LOG;
-use crate::answer::MARK;
-use crate::answer::NUMBERS;
 use crate::answer::UNFINISHED;
-use crate::answer::with_fate;
 use crate::case::Case;
-use crate::case::place;
-use crate::case::recipes;
+use crate::case::NONE;
+use crate::case::Place;
 use crate::log::Taken;
-use crate::log::blocks;
-use crate::log::idle;
+use crate::log::close;
 use crate::log::take;
+use std::num::wrapping_add_u16;
 use week::record::Week;
+use week::refusal::Refusal;
 ghost use Prim.Native.Nat.{_≤_, _<_};
 
 // The minutes from one to another of a week; 0 to one that is not after it, or further off than a week lasts.
-pub fn between(from: u16, to: u16) -> usize
+pub fn between(from: u16, to: u16) -> u16
     ensures { λ r. ⌜ r ≤ 2400 ⌝ }
 {
     if to <= from || Week::MAX_MINUTES < to - from {
         return 0;
     }
-    (to - from) as usize
+    to - from
 }
 
-// Whether the batch has the recipe that is named.
-fn has(p: [u16; 6]) -> bool {
-    0 < p[5] && p[5] <= recipes(p)
+// Whether a batch has recipe k.
+fn has(p: Place, k: u8) -> bool {
+    k == 1 || k == 2 && p.less != NONE
 }
 
 // The first position whose recipe its batch has not got, or 0.
-fn unnamed(c: Case) -> u64 {
+fn unnamed(c: Case) -> usize {
     for i in 0..Week::MAX_BATCHES {
-        if i < (c.count as usize) && !has(place(c, i)) {
-            return (i as u64) + 1;
+        if i < (c.count as usize) && !has(c.places[i], c.recipes[i]) {
+            return i + 1;
         }
     }
     0
 }
 
-fn refused(number: u64, place: u64) -> Answer {
-    let mut numbers = [0; NUMBERS];
-    numbers[0] = number;
-    numbers[1] = place;
-    Answer {
-        numbers,
-        log: [MARK; LOG],
-    }
+// The minutes of recipe k, of two.
+fn cost(p: Place, k: u8) -> u16 {
+    if k == 1 { p.cost } else { p.less }
 }
 
-// The minutes of the recipe that is named.
-fn cost(p: [u16; 6]) -> u16 {
-    if p[5] == 1 { p[3] } else { p[4] }
-}
-
-// a with the place of index i, which needed some minutes and took these.
-fn with_taken(a: Answer, i: usize, needed: u16, opening: u16, taken: Taken) -> Answer
-    requires { ⌜ (i < 16) × (taken .end ≤ 2400) ⌝ }
-{
+// Of a batch that needed some minutes and took these.
+fn fate_of(needed: u16, opening: u16, taken: Taken) -> Fate {
     if needed == 0 {
-        return with_fate(a, i, ASIDE, 0);
+        return Fate {
+            kind: ASIDE,
+            minutes: 0,
+        };
     }
     if taken.count < needed {
-        return with_fate(a, i, UNFINISHED, (needed - taken.count) as u64);
+        return Fate {
+            kind: UNFINISHED,
+            minutes: needed - taken.count,
+        };
     }
-    with_fate(a, i, FINISHED, (opening as u64) + (taken.end as u64))
+    Fate {
+        kind: FINISHED,
+        minutes: wrapping_add_u16(opening, taken.end),
+    }
 }
 
-// a with the place of index i read.
-fn with_place(a: Answer, i: usize, p: [u16; 6], opening: u16, span: usize) -> Answer
-    requires { ⌜ (i < 16) × (span ≤ 2400) ⌝ }
+// The batch of index i takes its minutes.
+fn read(c: Case, i: usize, log: &mut [u8; LOG]) -> Fate
+    requires { ⌜ i < 16 ⌝ }
 {
-    let numbers = a.numbers;
-    let mut log = a.log;
-    let needed = cost(p);
+    let p = c.places[i];
+    let needed = cost(p, c.recipes[i]);
+    let ready = between(c.opening, p.arrival);
     let taken = take(
-        &mut log,
-        between(opening, p[1]),
-        span,
+        log,
+        ready,
+        between(c.opening, c.closing),
         needed,
         (i + 1) as u8,
     );
-    with_taken(Answer { numbers, log }, i, needed, opening, taken)
-}
-
-// a with the idle minutes and the changes.
-fn closed(a: Answer, minutes: usize) -> Answer
-    requires { ⌜ minutes ≤ 2400 ⌝ }
-{
-    let mut numbers = a.numbers;
-    let mut log = a.log;
-    numbers[3] = idle(&mut log, minutes);
-    numbers[4] = blocks(&log, minutes);
-    Answer { numbers, log }
+    fate_of(needed, c.opening, taken)
 }
 
 // The answer to a case that nothing refuses.
 fn accepted(c: Case) -> Answer {
-    let span = between(c.opening, c.closing);
-    let mut a = refused(0, 0);
+    let mut a = Answer::bare(Refusal::none());
+    let mut log = a.log;
     for i in 0..Week::MAX_BATCHES {
         if i < (c.count as usize) {
-            a = with_place(a, i, place(c, i), c.opening, span);
+            a.fates[i] = read(c, i, &mut log);
         }
     }
-    closed(a, span)
+    let closed = close(&mut log, between(c.opening, c.closing));
+    a.idle = closed.idle;
+    a.changes = closed.blocks;
+    a.log = log;
+    a
 }
 
 // The answer to a case whose list is well formed: 13, then 12, then the run.
 pub fn reckon(c: Case) -> Answer {
     if c.named != c.count {
-        return refused(13, 0);
+        return Answer::bare(Refusal::at(13, 0, 0));
     }
     let position = unnamed(c);
     if position != 0 {
-        return refused(13, position);
+        return Answer::bare(Refusal::at(13, position, 0));
     }
-    if (c.size as usize) < between(c.opening, c.closing) {
-        return refused(12, 0);
+    if c.size < between(c.opening, c.closing) {
+        return Answer::bare(Refusal::at(12, 0, 0));
     }
     accepted(c)
 }

@@ -1,71 +1,71 @@
 // One line for a case: the refusal's three numbers, the idle minutes, the changes, what became of the batch at each place, and the
 // bytes of a short log.
-use crate::answer::ASIDE;
+use crate::answer::Answer;
 use crate::answer::FINISHED;
+use crate::answer::Fate;
 use crate::answer::LOG;
-use crate::answer::NUMBERS;
+use crate::answer::UNFINISHED;
 use crate::answer::run_of;
 use crate::case::Case;
 use libc::STDOUT_FILENO;
 use week::record::Week;
-ghost use Prim.Native.Nat.{_≤_};
+use week::refusal::Refusal;
 
 // The longest log that is shown.
-const SHOWN: usize = 12;
+const SHOWN: u16 = 12;
 
-pub fn number(n: u64) {
-    io::write_all(STDOUT_FILENO, b" ");
+pub fn show_count(name: &[u8], n: u64) {
+    io::write_all(STDOUT_FILENO, name);
     io::print_decimal(STDOUT_FILENO, n);
 }
 
-// `f` and the minute at which a batch is finished, `u` and the minutes left of one that is not.
-fn fate(kind: u64, minutes: u64) {
+fn show_refusal(r: Refusal) {
+    show_count(b": ", r.number as u64);
+    show_count(b" ", r.place as u64);
+    show_count(b" ", r.recipe as u64);
+}
+
+// `-` is set aside, `f` the minute at which a batch is finished, `u` the minutes left of one that is not.
+fn show_fate(f: Fate) {
+    let kind = f.kind;
     match kind {
-        ASIDE => {
+        FINISHED => show_count(b" f", f.minutes as u64),
+        UNFINISHED => show_count(b" u", f.minutes as u64),
+        _ => {
             io::write_all(STDOUT_FILENO, b" -");
-            return;
         }
-        FINISHED => io::write_all(STDOUT_FILENO, b" f"),
-        _ => io::write_all(STDOUT_FILENO, b" u"),
-    }
-    ;
-    io::print_decimal(STDOUT_FILENO, minutes);
-}
-
-fn numbers(a: [u64; NUMBERS]) {
-    for k in 0..5usize {
-        number(a[k]);
     }
 }
 
-fn fates(a: [u64; NUMBERS]) {
+fn show_fates(a: Answer) {
     for i in 0..Week::MAX_BATCHES {
-        fate(a[5 + i], a[21 + i]);
+        show_fate(a.fates[i]);
     }
 }
 
 // A byte of an array: as a parameter it is known to have 8 bits.
 fn byte(b: u8) {
-    number(b as u64);
+    show_count(b" ", b as u64);
 }
 
-fn bytes(log: [u8; LOG], n: usize) {
+fn show_log(log: [u8; LOG], size: u16) {
     for m in 0..SHOWN {
-        if m < n && n <= SHOWN {
-            byte(log[m]);
+        if m < size && size <= SHOWN {
+            byte(log[m as usize]);
         }
     }
 }
 
 pub fn show(name: &[u8], c: Case) {
     let a = run_of(c);
-    let n = a.numbers;
-    let log = a.log;
     io::write_all(STDOUT_FILENO, name);
-    io::write_all(STDOUT_FILENO, b":");
-    numbers(n);
-    fates(n);
+    let r = a.refusal;
+    show_refusal(r);
+    show_count(b" idle ", a.idle as u64);
+    show_count(b" changes ", a.changes as u64);
+    show_fates(a);
     io::write_all(STDOUT_FILENO, b" log");
-    bytes(log, c.size as usize);
+    let log = a.log;
+    show_log(log, c.size);
     io::write_all(STDOUT_FILENO, b"\n");
 }

@@ -19,14 +19,17 @@ cast-w c = search needs
 loop-holds : tie.Need-loop-holds Inv-loop μ-loop
 loop-holds c = search needs
 
-place-requires : tie.Need-place-requires Inv-loop μ-loop
-place-requires c κs = search needs
+mul-batch : tie.Need-mul-batch Inv-loop μ-loop
+mul-batch c = search needs
+
+element-copy-out-batch : tie.Need-element-copy-out-batch Inv-loop μ-loop
+element-copy-out-batch c = search needs
 
 batch-requires : tie.Need-batch-requires Inv-loop μ-loop
 batch-requires c κs = search needs
 
-mul-t9 : tie.Need-mul-t9 Inv-loop μ-loop
-mul-t9 c = search needs
+mul-t15 : tie.Need-mul-t15 Inv-loop μ-loop
+mul-t15 c = search needs
 
 element-set-from-w : tie.Need-element-set-from-w Inv-loop μ-loop
 element-set-from-w c = search needs
@@ -52,9 +55,10 @@ week-spec =
     empty-requires
     cast-w
     loop-holds
-    place-requires
+    mul-batch
+    element-copy-out-batch
     batch-requires
-    mul-t9
+    mul-t15
     element-set-from-w
     add-i
     loop-less

@@ -22,8 +22,11 @@ loop-holds c = search needs
 add-below : tie.Need-add-below Inv-loop μ-loop
 add-below c = search needs
 
-double-share-requires : tie.Need-double-share-requires Inv-loop μ-loop
-double-share-requires c κs = search needs
+span-requires : tie.Need-span-requires Inv-loop μ-loop
+span-requires c κs = search needs
+
+add-below-2 : tie.Need-add-below-2 Inv-loop μ-loop
+add-below-2 c = search needs
 
 below-requires : tie.Need-below-requires Inv-loop μ-loop
 below-requires c κs = search needs
@@ -31,17 +34,32 @@ below-requires c κs = search needs
 later-requires : tie.Need-later-requires Inv-loop μ-loop
 later-requires c κs = search needs
 
-cast-with-place : tie.Need-cast-with-place Inv-loop μ-loop
-cast-with-place c = search needs
+add-place-of : tie.Need-add-place-of Inv-loop μ-loop
+add-place-of c = search needs
 
-add-place : tie.Need-add-place Inv-loop μ-loop
-add-place c = search needs
+place-of-requires : tie.Need-place-of-requires Inv-loop μ-loop
+place-of-requires c κs = search needs
 
-place-requires : tie.Need-place-requires Inv-loop μ-loop
-place-requires c κs = search needs
+cast-t13 : tie.Need-cast-t13 Inv-loop μ-loop
+cast-t13 c = search needs
 
-with-place-requires : tie.Need-with-place-requires Inv-loop μ-loop
-with-place-requires c κs = search needs
+mul-t14 : tie.Need-mul-t14 Inv-loop μ-loop
+mul-t14 c = search needs
+
+element-set-from-c : tie.Need-element-set-from-c Inv-loop μ-loop
+element-set-from-c c = search needs
+
+add-recipe : tie.Need-add-recipe Inv-loop μ-loop
+add-recipe c = search needs
+
+recipe-requires : tie.Need-recipe-requires Inv-loop μ-loop
+recipe-requires c κs = search needs
+
+cast-c : tie.Need-cast-c Inv-loop μ-loop
+cast-c c = search needs
+
+element-write-c : tie.Need-element-write-c Inv-loop μ-loop
+element-write-c c = search needs
 
 add-i : tie.Need-add-i Inv-loop μ-loop
 add-i c = search needs
@@ -65,13 +83,19 @@ case-of-spec =
     first-requires
     loop-holds
     add-below
-    double-share-requires
+    span-requires
+    add-below-2
     below-requires
     later-requires
-    cast-with-place
-    add-place
-    place-requires
-    with-place-requires
+    add-place-of
+    place-of-requires
+    cast-t13
+    mul-t14
+    element-set-from-c
+    add-recipe
+    recipe-requires
+    cast-c
+    element-write-c
     add-i
     loop-less
     loop-again

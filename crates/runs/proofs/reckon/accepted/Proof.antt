@@ -5,16 +5,16 @@ use Rattle.runs.proofs.reckon.accepted.Statement.{statement}
 use Rattle.runs.proofs.reckon.accepted.Tie as tie
 
 abbrev Inv-loop : tie.InvT-loop
-Inv-loop c close a₀ i₀ a i = i ≤ 16
+Inv-loop c a₀ log₀ i₀ a log i = i ≤ 16
 
 abbrev μ-loop : tie.MeasureT-loop
-μ-loop c close a₀ i₀ a i = 16 - i
+μ-loop c a₀ log₀ i₀ a log i = 16 - i
 
-between-requires : tie.Need-between-requires Inv-loop μ-loop
-between-requires c κs = search needs
+none-requires : tie.Need-none-requires Inv-loop μ-loop
+none-requires c κs = search needs
 
-refused-requires : tie.Need-refused-requires Inv-loop μ-loop
-refused-requires c κs = search needs
+bare-requires : tie.Need-bare-requires Inv-loop μ-loop
+bare-requires c κs = search needs
 
 loop-holds : tie.Need-loop-holds Inv-loop μ-loop
 loop-holds c = search needs
@@ -22,11 +22,14 @@ loop-holds c = search needs
 cast-if1 : tie.Need-cast-if1 Inv-loop μ-loop
 cast-if1 c = search needs
 
-place-requires : tie.Need-place-requires Inv-loop μ-loop
-place-requires c κs = search needs
+read-requires : tie.Need-read-requires Inv-loop μ-loop
+read-requires c κs = search needs
 
-with-place-requires : tie.Need-with-place-requires Inv-loop μ-loop
-with-place-requires c κs = search needs
+mul-t13 : tie.Need-mul-t13 Inv-loop μ-loop
+mul-t13 c = search needs
+
+element-set-from-a : tie.Need-element-set-from-a Inv-loop μ-loop
+element-set-from-a c = search needs
 
 add-i : tie.Need-add-i Inv-loop μ-loop
 add-i c = search needs
@@ -37,8 +40,11 @@ loop-less c = search needs
 loop-again : tie.Need-loop-again Inv-loop μ-loop
 loop-again c = search needs
 
-closed-requires : tie.Need-closed-requires Inv-loop μ-loop
-closed-requires c κs = search needs
+between-requires : tie.Need-between-requires Inv-loop μ-loop
+between-requires c κs = search needs
+
+close-requires : tie.Need-close-requires Inv-loop μ-loop
+close-requires c κs = search needs
 
 returns : tie.Need-returns Inv-loop μ-loop
 returns c = search needs
@@ -49,14 +55,16 @@ accepted-spec =
     (tie.spec
     Inv-loop
     μ-loop
-    between-requires
-    refused-requires
+    none-requires
+    bare-requires
     loop-holds
     cast-if1
-    place-requires
-    with-place-requires
+    read-requires
+    mul-t13
+    element-set-from-a
     add-i
     loop-less
     loop-again
-    closed-requires
+    between-requires
+    close-requires
     returns)

@@ -16,8 +16,14 @@ loop-holds c = search needs
 cast-if1 : tie.Need-cast-if1 Inv-loop μ-loop
 cast-if1 c = search needs
 
-place-requires : tie.Need-place-requires Inv-loop μ-loop
-place-requires c κs = search needs
+mul-has : tie.Need-mul-has Inv-loop μ-loop
+mul-has c = search needs
+
+element-copy-out-has : tie.Need-element-copy-out-has Inv-loop μ-loop
+element-copy-out-has c = search needs
+
+element-copy-out-has-2 : tie.Need-element-copy-out-has-2 Inv-loop μ-loop
+element-copy-out-has-2 c = search needs
 
 has-requires : tie.Need-has-requires Inv-loop μ-loop
 has-requires c κs = search needs
@@ -48,7 +54,9 @@ unnamed-spec =
     μ-loop
     loop-holds
     cast-if1
-    place-requires
+    mul-has
+    element-copy-out-has
+    element-copy-out-has-2
     has-requires
     add-result
     returns

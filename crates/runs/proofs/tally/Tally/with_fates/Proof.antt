@@ -13,14 +13,11 @@ abbrev μ-loop : tie.MeasureT-loop
 loop-holds : tie.Need-loop-holds Inv-loop μ-loop
 loop-holds c = search needs
 
-add-with-fate : tie.Need-add-with-fate Inv-loop μ-loop
-add-with-fate c = search needs
-
 mul-with-fate : tie.Need-mul-with-fate Inv-loop μ-loop
 mul-with-fate c = search needs
 
-array-read-with-fate : tie.Need-array-read-with-fate Inv-loop μ-loop
-array-read-with-fate c = search needs
+element-copy-out-with-fate : tie.Need-element-copy-out-with-fate Inv-loop μ-loop
+element-copy-out-with-fate c = search needs
 
 with-fate-requires : tie.Need-with-fate-requires Inv-loop μ-loop
 with-fate-requires c κs = search needs
@@ -44,9 +41,8 @@ with-fates-spec =
     Inv-loop
     μ-loop
     loop-holds
-    add-with-fate
     mul-with-fate
-    array-read-with-fate
+    element-copy-out-with-fate
     with-fate-requires
     add-i
     loop-less

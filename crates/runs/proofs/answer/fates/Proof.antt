@@ -1,17 +1,14 @@
--- `answer_of` is safe and ends: it goes through the places once.
+-- `fates` is safe and ends: it goes through the places once.
 use borrow.Author.Needs.{needs}
 use Prim.Native.Nat.{_≤_, _-_}
-use Rattle.runs.proofs.answer.answer_of.Statement.{statement}
-use Rattle.runs.proofs.answer.answer_of.Tie as tie
+use Rattle.runs.proofs.answer.fates.Statement.{statement}
+use Rattle.runs.proofs.answer.fates.Tie as tie
 
 abbrev Inv-loop : tie.InvT-loop
-Inv-loop run a₀ i₀ a i = i ≤ 16
+Inv-loop run all₀ i₀ all i = i ≤ 16
 
 abbrev μ-loop : tie.MeasureT-loop
-μ-loop run a₀ i₀ a i = 16 - i
-
-head-requires : tie.Need-head-requires Inv-loop μ-loop
-head-requires c κs = search needs
+μ-loop run all₀ i₀ all i = 16 - i
 
 loop-holds : tie.Need-loop-holds Inv-loop μ-loop
 loop-holds c = search needs
@@ -22,8 +19,14 @@ mul-b c = search needs
 element-copy-out-b : tie.Need-element-copy-out-b Inv-loop μ-loop
 element-copy-out-b c = search needs
 
-with-outcome-requires : tie.Need-with-outcome-requires Inv-loop μ-loop
-with-outcome-requires c κs = search needs
+fate-of-requires : tie.Need-fate-of-requires Inv-loop μ-loop
+fate-of-requires c κs = search needs
+
+mul-all : tie.Need-mul-all Inv-loop μ-loop
+mul-all c = search needs
+
+array-set-from-all : tie.Need-array-set-from-all Inv-loop μ-loop
+array-set-from-all c = search needs
 
 add-i : tie.Need-add-i Inv-loop μ-loop
 add-i c = search needs
@@ -37,17 +40,18 @@ loop-again c = search needs
 returns : tie.Need-returns Inv-loop μ-loop
 returns c = search needs
 
-pub answer-of-spec : {M : Type 1} → statement M
-answer-of-spec =
+pub fates-spec : {M : Type 1} → statement M
+fates-spec =
     tie.close
     (tie.spec
     Inv-loop
     μ-loop
-    head-requires
     loop-holds
     mul-b
     element-copy-out-b
-    with-outcome-requires
+    fate-of-requires
+    mul-all
+    array-set-from-all
     add-i
     loop-less
     loop-again
