@@ -21,7 +21,7 @@ use Rattle.edf.specs.Run.{outcomeNumbers}
 use Rattle.select.proofs.Entries.{filled-entry, filled-later}
 use Rattle.select.specs.Table.{entryAt}
 use Rattle.week.specs.declared.record.Week.{Week}
-use Rattle.week.specs.Record.{batchAt, batchOf, recipeAt, spanOf, readyOf}
+use Rattle.week.specs.Record.{batchOf, recipeOf, spanOf, readyOf}
 use Rattle.week.specs.Refusal.{refused}
 use Rattle.week.specs.Fault.{WellFormed, WellChosen}
 use Rattle.week.proofs.First.{number-of, firstOf-none, refusedIf-none}
@@ -77,9 +77,8 @@ module _ (w : Week) (table : List ℕ) (fills : Fills (chooseAnswer w (length ta
       }
 
   -- .. and "A batch arriving at or after x is never given a recipe there that needs minutes".
-  pub late-batch : (i x : ℕ) → 1 ≤ i → i ≤ w .count → w .opening ≤ x → x ≤ w .closing → x ≤ batchAt w (i - 1) .arrival →
-      let k = getD (tableAfter w table) (entryAt (w .opening) (widthOf w) i x) 0 in
-      (k ≡ 0) ⊎ (recipeAt (batchAt w (i - 1)) (k - 1) .cost ≡ 0)
+  pub late-batch : (i x : ℕ) → 1 ≤ i → i ≤ w .count → w .opening ≤ x → x ≤ w .closing → x ≤ batchOf w i .arrival →
+      recipeOf (batchOf w i) (getD (tableAfter w table) (entryAt (w .opening) (widthOf w) i x) 0) .cost ≡ 0
   late-batch i x first last from to late =
       rw (choose-fills .entry i x first last from to)
       (late-recipe w (sound w (number-of (passed-both .0))) i x first last late)

@@ -1,5 +1,6 @@
 // Choose: the recipes of greatest worth that meet the backward rule.
 use crate::job::jobs_of;
+use crate::span::span;
 use jobs::worth::total;
 use select::choice::read_off;
 use select::table::fill;
@@ -38,7 +39,7 @@ fn row_width(week: Week) -> usize
     requires { ⌜ week .opening ≤ week .closing ⌝ }
     ensures { λ r. ⌜ r ≡ widthOf week ⌝ }
 {
-    ((week.closing - week.opening) as usize) + 1
+    span(week) + 1
 }
 
 // What refuses to fill a table of `size` bytes: refusals 1 to 10, then 11.

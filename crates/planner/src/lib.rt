@@ -3,3 +3,4 @@ pub mod check;
 pub mod choose;
 pub mod job;
 pub mod run;
+mod span;

@@ -1,5 +1,6 @@
 // Run: the station's week under a choice, minute by minute.
 use crate::job::jobs_of;
+use crate::span::span;
 use edf::log::changes as changes_in;
 use edf::log::entries as entries_in;
 use edf::outcome::Outcome;
@@ -12,12 +13,10 @@ use week::record::Week;
 use week::refusal::Refusal;
 ghost use mathlib.Core.Path.{_≡_};
 ghost use mathlib.Core.Bool.{true};
-ghost use Prim.Native.Nat.{_≤_};
 ghost use lib.ListN.{length};
 ghost use Rattle.jobs.specs.Rule.{meets};
 ghost use Rattle.edf.specs.Workload.{workLog};
 ghost use Rattle.edf.specs.Contract.{Runnable};
-ghost use Rattle.week.specs.Record.{spanOf};
 ghost use Rattle.planner.specs.Job.{weekJobs};
 ghost use Rattle.planner.specs.Check.{weekChoice};
 ghost use Rattle.planner.specs.Run.{runFault, setAside, refusedRun, logAnswer, runAnswer, logAfter};
@@ -58,14 +57,6 @@ impl WeekRun {
             batches: [aside; Week::MAX_BATCHES],
         }
     }
-}
-
-// The minutes of a week, from its opening to its close.
-fn span(week: Week) -> usize
-    requires { ⌜ week .opening ≤ week .closing ⌝ }
-    ensures { λ r. ⌜ r ≡ spanOf week ⌝ }
-{
-    (week.closing - week.opening) as usize
 }
 
 // What refuses to run a choice over a log of `size` bytes: refusals 1 to 10, then 13, then 12.
