@@ -1,10 +1,11 @@
 -- A lent slice whose first n entries are written and whose others are kept: `front ++ drop n old`.
-use Prim.Native.Nat.{ℕ, _+_, _-_, _≤_}
+use Prim.Native.Nat.{ℕ, suc, _+_, _-_, _≤_, _<_}
+use native.Mathlib.Numerals.{add-one}
 use native.Mathlib.Omega.{arith}
 use mathlib.Core.Path.{_≡_, sym, _∙_}
-use mathlib.Core.List.{List, _++_}
-use lib.ListN.{length, getD, drop}
-use lib.Seq.{length-take-le, length-front, getD-append-add, getD-drop}
+use mathlib.Core.List.{List, _++_, append-assoc}
+use lib.ListN.{length, getD, take, drop, set}
+use lib.Seq.{length-take-le, length-front, getD-append-add, getD-drop, take-suc, drop-cons, set-at}
 
 module _ {A : Type 0} (front old : List A) (n : ℕ) (size : length front ≡ n) where
   pub length-kept : n ≤ length old → length (front ++ drop n old) ≡ length old
@@ -14,3 +15,15 @@ module _ {A : Type 0} (front old : List A) (n : ℕ) (size : length front ≡ n)
   later-kept d e later =
       let at : n + (e - n) ≡ e = omega arith in
       rw (← at, ← size, getD-append-add, getD-drop)
+
+-- a loop that writes it from another list, one entry a turn
+pub front-step : {A : Type 0} (d : A) (from old : List A) (i : ℕ) → i < length from → i < length old →
+    set (take i from ++ drop i old) i (getD from i d) ≡ take (i + 1) from ++ drop (i + 1) old
+front-step d from old i more room =
+    rw (
+      drop-cons old i d room,
+      set-at (take i from) (getD old i d) (drop (suc i) old) (getD from i d) i (length-take-le i from (omega arith)),
+      add-one i,
+      take-suc from i d more,
+      append-assoc,
+    )

@@ -112,3 +112,18 @@ module _ {A : Type 0} where
   pub position-beyond : (m : ℕ) (d : A) (xs : List A) (i : ℕ) → length xs < i → atPosition d (padded m d xs) i ≡ d
   position-beyond m d xs zero past = absurd (omega arith)
   position-beyond m d xs (suc i) past = padded-at m d xs i ∙ List·getD-eq-default xs d (omega arith)
+
+  -- what holds of each entry that a padded array is made of, and past its end, holds at each index
+  module _ (P : A → Type 0) (d e : A) (fill : P d) (past : P e) where
+    replicate-each : (n i : ℕ) → P (getD (replicate n d) i e)
+    replicate-each zero i = past
+    replicate-each (suc n) zero = fill
+    replicate-each (suc n) (suc i) = replicate-each n i
+
+    append-each : (f : ℕ → A) → ((i : ℕ) → P (f i)) → (a n m i : ℕ) → P (getD (tabulate f a n ++ replicate m d) i e)
+    append-each f each a zero m i = replicate-each m i
+    append-each f each a (suc n) m zero = each a
+    append-each f each a (suc n) m (suc i) = append-each f each (suc a) n m i
+
+    pub padded-each : (f : ℕ → A) → ((i : ℕ) → P (f i)) → (m n i : ℕ) → P (getD (padded m d (tabulate f 0 n)) i e)
+    padded-each f each m n = append-each f each 0 n (m - length (tabulate f 0 n))

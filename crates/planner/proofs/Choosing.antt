@@ -4,14 +4,13 @@ use native.Mathlib.Decide.{ℕ-discrete}
 use native.Mathlib.Omega.{arith}
 use mathlib.Core.Path.{_≡_, refl, sym, ap, _∙_}
 use mathlib.Core.Logic.{_↔_, _⊎_, inl, inr, ⊎-elim}
-use mathlib.Core.Bool.{false}
+use mathlib.Core.Bool.{Bool, not}
 use mathlib.Core.List.{List, [], _∷_}
 use mathlib.Core.Option.{Option, none, some}
 use lib.ListN.{length}
 use lib.Dec.{eqb}
-use borrow.Author.Tests.{eqb-false}
+use borrow.Author.Tests.{eqb-false, ne-eqb, not-true}
 use Rattle.jobs.specs.Model.{noJob}
-use Rattle.jobs.specs.Best.{best}
 use Rattle.jobs.proofs.Cases.{option-cases}
 use Rattle.jobs.proofs.Places.{length-backward}
 use Rattle.select.specs.Table.{filled}
@@ -22,15 +21,17 @@ use Rattle.week.specs.Refusal.{firstOf, shortFault}
 use Rattle.week.specs.Fault.{listFault, WellFormed}
 use Rattle.week.proofs.First.{number-of, refuses-too, or-first, or-second, firstOf-here, firstOf-last, firstOf-none, firstOf-proper}
 use Rattle.week.proofs.First.{long-passes, short-proper, unless-passed, unless-refused}
-use Rattle.week.proofs.Numbers.{or-other, refusedIf-other, list-other}
+use Rattle.week.proofs.Numbers.{Numbered, or-numbered, refusedIf-numbered, list-numbered}
 use Rattle.planner.specs.declared.choose.Plan.{Plan}
 use Rattle.planner.specs.Job.{jobListOf, weekJobs}
 use Rattle.planner.specs.Choose.{widthOf, tableFault, planFault, chooseFault, fillFault, refusedPlan, planOf, chooseAnswer}
-use Rattle.planner.specs.Choose.{tableAfter, Fills, LongEnough}
+use Rattle.planner.specs.Choose.{weekBest, tableAfter, Fills, LongEnough}
 
--- the best choice of a week's jobs
-abbrev pub weekBest : Week → Option (List ℕ)
-weekBest w = best (weekJobs w) (w .closing)
+-- a plan's refusal is that of the best choice
+pub plan-refusal : (w : Week) (o : Option (List ℕ)) → planOf w o .refusal ≡ planFault o
+unfolding planOf refusedPlan
+plan-refusal w none = refl
+plan-refusal w (some ks) = refl
 
 plan-number : {a b : Plan} → a ≡ b → a .refusal .number ≡ b .refusal .number
 plan-number e = ap (λ (p : Plan). p .refusal .number) e
@@ -67,9 +68,11 @@ module _ (w : Week) (size : ℕ) where
   unfolding chooseFault
   fault-plan z e = or-second (fillFault w size) _ z ∙ ap planFault e
 
-  fault-other : eqb (fillFault w size .number) 14 ≡ false
+  fault-other : Numbered (λ n. not (eqb n 14)) (fillFault w size)
   unfolding fillFault tableFault shortFault firstOf
-  fault-other = search (or-other 14, refusedIf-other 14, list-other w)
+  fault-other =
+      let other : ℕ → Bool = λ n. not (eqb n 14) in
+      search (or-numbered other, refusedIf-numbered other, list-numbered other (λ n l. ap not (ne-eqb n 14 (λ e. omega arith))) w)
 
   -- the answer
   pub plan-refused : {r : Refusal} → fillFault w size ≡ r → (r .number ≡ 0 → ⊥) → chooseAnswer w size ≡ refusedPlan r
@@ -100,7 +103,7 @@ module _ (w : Week) (size : ℕ) where
           | yes z ↦ z
           | no n ↦
               let same = plan-number (plan-refused refl n) in
-              absurd (⊎-elim (λ e. n (sym same ∙ e)) (λ e. eqb-false _ _ fault-other (sym same ∙ e)) fills)
+              absurd (⊎-elim (λ e. n (sym same ∙ e)) (λ e. eqb-false _ _ (not-true _ fault-other) (sym same ∙ e)) fills)
         ],
     λ z.
         ⊎-elim (λ e. inr (plan-number (plan-passed z e))) (λ s. inl (plan-number (plan-passed z (s .1)))) (option-cases (weekBest w)),

@@ -7,7 +7,7 @@ use mathlib.Core.Path.{_≡_, refl, sym, _∙_}
 use mathlib.Core.Logic.{_↔_, _⊎_, inl, inr}
 use mathlib.Core.Bool.{true}
 use mathlib.Core.List.{List, [], _∷_, _++_}
-use lib.ListN.{length, getD, take, drop}
+use lib.ListN.{length, getD, drop}
 use borrow.Author.Tests.{eqb-true, not-false}
 use Rattle.jobs.specs.Model.{atPosition}
 use Rattle.jobs.specs.Rule.{meets, failing}
@@ -30,7 +30,7 @@ use Rattle.week.proofs.Order.{position-order}
 use Rattle.planner.specs.Job.{jobListOf, weekJobs}
 use Rattle.planner.specs.Check.{weekChoice, ruleFault, checkFault, passed, refusedCheck, checkAnswer}
 use Rattle.planner.specs.Choose.{widthOf, chooseFault, refusedPlan, planOf, chooseAnswer, tableAfter}
-use Rattle.planner.specs.Choose.{Fills, PicksTable, BestPlan, NoPlan, LongEnough}
+use Rattle.planner.specs.Choose.{planChoice, Fills, PicksTable, BestPlan, NoPlan, LongEnough}
 use Rattle.planner.specs.Run.{runFault, weekLog, setAside, refusedRun, runAnswer, logAfter, LongLog}
 use Rattle.planner.specs.Run.{chosenRecipe, unreadAt, StationLog, LogSays, InTime}
 use Rattle.planner.proofs.Handed.{none-handed, handed-passes}
@@ -231,28 +231,28 @@ module _
         rw (run-passed w choice (length log) (nothing-refuses w choice log runs))
         (finished w (list-sound w choice log runs) choice (choice-named w choice log runs) meeting)
 
--- .. and so of the plan that Choose answers: 01's "Run with the same list, with that plan as its choice and with a log that 12 does
--- not catch".
-module _
-    (w : Week) (size : ℕ) (planned : chooseAnswer w size .refusal .number ≡ 0) (log : List ℕ) (long : LongLog w (length log))
-  where
-    -- that plan as a choice
-    abbrev plan : List ℕ
-    plan = take (w .count) (chooseAnswer w size .choice)
+-- .. and so of the plan that Choose answers.
+module _ (w : Week) (size : ℕ) (planned : chooseAnswer w size .refusal .number ≡ 0) where
+  -- that plan as a choice ..
+  abbrev plan : List ℕ
+  plan = planChoice w (chooseAnswer w size)
 
-    plan-handed : Named w plan
-    unfolding planOf
-    plan-handed =
-        let some = zero-some w size planned in
-        let passed = fills-faultless w size .0 (inl planned) in
-        let fine = sound w (number-of (faultless w size .0 passed .0)) in
-        rw (plan-passed w size passed (some .1))
-        (names-handed w fine (plan-names w fine (some .0) (best-some (weekJobs w) (w .closing) (some .0) (some .1) .valid)))
+  -- .. which is well formed
+  pub choose-names : Named w plan
+  unfolding planOf
+  choose-names =
+      let some = zero-some w size planned in
+      let passed = fills-faultless w size .0 (inl planned) in
+      let fine = sound w (number-of (faultless w size .0 passed .0)) in
+      rw (plan-passed w size passed (some .1))
+      (names-handed w fine (plan-names w fine (some .0) (best-some (weekJobs w) (w .closing) (some .0) (some .1) .valid)))
 
+  -- 01: "Run with the same list, with that plan as its choice and with a log that 12 does not catch".
+  module _ (log : List ℕ) (long : LongLog w (length log)) where
     pub choose-runs : runAnswer w plan (length log) .refusal .number ≡ 0
     choose-runs =
         let list = faultless w size .0 (fills-faultless w size .0 (inl planned)) .0 in
-        run-runs w plan (length log) .1 (list, well-chosen w plan-handed, long)
+        run-runs w plan (length log) .1 (list, well-chosen w choose-names, long)
 
     pub choose-in-time : InTime w plan (logAfter w plan log)
     choose-in-time =

@@ -8,7 +8,7 @@ use lib.Seq.{length-take-le, getD-take}
 use Rattle.jobs.specs.declared.model.Version.{Version}
 use Rattle.jobs.specs.declared.model.Job.{Job}
 use Rattle.jobs.specs.Model.{maxVersions, noVersion, noJob, versionOf, placed}
-use Rattle.jobs.specs.Choice.{Valid}
+use Rattle.jobs.specs.Choice.{Valid, total}
 use Rattle.jobs.specs.Contract.{Names, Answerable}
 use Rattle.jobs.proofs.Arrays.{valid-names}
 use Rattle.jobs.proofs.Named.{named-version}
@@ -20,6 +20,7 @@ use Rattle.week.specs.declared.record.Week.{Week}
 use Rattle.week.specs.Record.{maxBatches, maxRecipes, batchAt, recipeAt}
 use Rattle.week.proofs.Sound.{Sound, Named}
 use Rattle.planner.specs.Job.{versionFrom, jobFrom, jobListOf, weekJobs}
+use Rattle.planner.specs.Check.{weekChoice}
 use Rattle.planner.specs.Choose.{widthOf}
 
 pub version-at : (t : ℕ) (b : Batch) (k : ℕ) → 1 ≤ k → k ≤ maxRecipes → versionOf (jobFrom t b) k ≡ versionFrom b (k - 1)
@@ -62,7 +63,7 @@ module _ (w : Week) (sound : Sound w) where
   pub plan-names : (ks : List ℕ) → Valid (weekJobs w) ks → Names (jobListOf w) (placed maxBatches 0 ks)
   plan-names ks valid = valid-names (jobListOf w) ks valid (sound .most) few-versions
 
-  -- its total fits 32 bits, each worth having 16
+  -- its total is at most 1,048,560, each worth having 16 bits, so that 32 hold it
   module _
       (fit : (i k : ℕ) → i < maxBatches → k < maxRecipes → recipeAt (batchAt w i) k .worth < 65536)
       {choice : List ℕ} (names : Names (jobListOf w) choice)
@@ -78,12 +79,11 @@ module _ (w : Week) (sound : Sound w) where
             fit i (k - 1) (omega (arith, sound .most)) (omega arith),
           )
 
+      pub total-small : total (weekJobs w) (weekChoice w choice) ≤ maxBatches * 65535
+      total-small = omega (arith, sum-small (jobListOf w .jobs) choice 65535 (w .count) worth-at, sound .most)
+
       pub answerable : Answerable (jobListOf w) choice
-      answerable =
-          record {
-            names = names;
-            small = omega (arith, sum-small (jobListOf w .jobs) choice 65535 (w .count) worth-at, sound .most);
-          }
+      answerable = record { names = names; small = omega (arith, total-small) }
 
   -- a table that is long enough has a row for each job
   pub fillable : (size : ℕ) → w .count * widthOf w ≤ size → Fillable (jobListOf w) (w .opening) (widthOf w) size

@@ -25,9 +25,9 @@ use Rattle.week.specs.Refusal.{accepted}
 use Rattle.week.proofs.Sound.{Sound}
 use Rattle.planner.specs.declared.choose.Plan.{Plan}
 use Rattle.planner.specs.Job.{jobListOf, weekJobs}
-use Rattle.planner.specs.Choose.{widthOf, fillFault, planOf, chooseAnswer}
+use Rattle.planner.specs.Choose.{weekBest, widthOf, fillFault, planOf, chooseAnswer}
 use Rattle.planner.proofs.Jobs.{plan-names, fillable}
-use Rattle.planner.proofs.Choosing.{weekBest, plan-passed, table-size}
+use Rattle.planner.proofs.Choosing.{plan-passed, table-size}
 
 module _ (w : Week) (sound : Sound w) (table : List ℕ) (long : w .count * widthOf w ≤ length table) where
   pub readable : {list : JobList} → list ≡ jobListOf w →

@@ -5,7 +5,7 @@ use mathlib.Core.Logic.{_⊎_}
 use mathlib.Core.Bool.{true}
 use mathlib.Core.List.{List, [], _∷_}
 use mathlib.Core.Option.{Option, none, some}
-use lib.ListN.{length, getD, replicate}
+use lib.ListN.{length, getD, take, replicate}
 use Rattle.jobs.specs.declared.model.Job.{Job}
 use Rattle.jobs.specs.Model.{noJob, backward, placed}
 use Rattle.jobs.specs.Rule.{meets}
@@ -34,13 +34,17 @@ abbrev pub planFault : Option (List ℕ) → Refusal
 planFault none = refused 14 0 0
 planFault (some ks) = accepted
 
+-- the best choice of a week's jobs
+abbrev pub weekBest : Week → Option (List ℕ)
+weekBest w = best (weekJobs w) (w .closing)
+
 -- the refusals that leave the table as it was, in their order
 unfoldable pub fillFault : Week → ℕ → Refusal
 fillFault w size = firstOf (listFault w ∷ tableFault w size ∷ [])
 
 -- and all of Choose's: "Order: .. 1, 2, 3; then batch by batch 4 to 10 ..; 11; .. then 14"
 unfoldable pub chooseFault : Week → ℕ → Refusal
-chooseFault w size = orElse (fillFault w size) (planFault (best (weekJobs w) (w .closing)))
+chooseFault w size = orElse (fillFault w size) (planFault (weekBest w))
 
 -- "Anything else that its record holds is 0".
 unfoldable pub refusedPlan : Refusal → Plan
@@ -51,9 +55,13 @@ unfoldable pub planOf : Week → Option (List ℕ) → Plan
 planOf w none = refusedPlan (planFault none)
 planOf w (some ks) = record { refusal = accepted; total = total (weekJobs w) ks; choice = placed maxBatches 0 ks }
 
+-- a plan as the choice that it is: one recipe a batch
+abbrev pub planChoice : Week → Plan → List ℕ
+planChoice w plan = take (w .count) (plan .choice)
+
 unfoldable pub chooseAnswer : Week → ℕ → Plan
 chooseAnswer w size =
-    unlessRefused (fillFault w size) (planOf w (best (weekJobs w) (w .closing))) (refusedPlan (fillFault w size))
+    unlessRefused (fillFault w size) (planOf w (weekBest w)) (refusedPlan (fillFault w size))
 
 -- "Choosing fills a lent table of bytes." "The table is filled as well when refusal 14 is given." "Only 14 alters lent memory".
 unfoldable pub tableAfter : Week → List ℕ → List ℕ

@@ -1,10 +1,9 @@
 -- Document 01, "Fixed examples", A to L, computed from the definitions: one table, one claim.
 use Prim.Native.Nat.{ℕ, zero, suc, _+_, _*_, _-_}
 use mathlib.Core.Path.{_≡_, refl}
-use mathlib.Core.Bool.{Bool, true, false, _&&_}
+use mathlib.Core.Bool.{true}
 use mathlib.Core.List.{List, [], _∷_, _++_}
 use lib.ListN.{length, take, replicate}
-use lib.Dec.{eqb}
 use Rattle.jobs.specs.declared.rule.Stretch.{Stretch}
 use Rattle.jobs.specs.Rule.{stretchOf, fits, nextBound}
 use Rattle.jobs.specs.Best.{best}
@@ -16,6 +15,7 @@ use Rattle.week.specs.declared.record.Recipe.{Recipe}
 use Rattle.week.specs.declared.record.Batch.{Batch}
 use Rattle.week.specs.declared.record.Week.{Week}
 use Rattle.week.specs.Record.{maxBatches, maxRecipes, noRecipe, emptyBatch, spanOf, before}
+use Rattle.week.specs.Example.{Example, _is_, same, agree}
 use Rattle.week.specs.Refusal.{refusedIf, orElse, firstOf, first, shortFault, unlessRefused}
 use Rattle.week.specs.Fault.{weekFault, costFault, worthFault, repeatFault, orderFault, batchFault, listFault, nameFault, choiceFault}
 use Rattle.planner.specs.declared.check.Checked.{Checked}
@@ -130,15 +130,6 @@ log w choice = logAfter w choice (replicate (spanOf w + 1) 255)
 abbrev picks : Week → List ℕ
 picks w = tableAfter w (replicate (w .count * widthOf w + 1) 255)
 
--- What the definitions say, and what document 01 says.
-record Example : Type 0 where
-  pub said : List ℕ
-  pub written : List ℕ
-
-infixl 20 _is_
-abbrev _is_ : List ℕ → List ℕ → Example
-a is b = record { said = a; written = b }
-
 table : List Example
 table =
     -- A, with the stretches that case W prints
@@ -202,16 +193,6 @@ table =
     ∷ 255 ∷ []))
     ∷ (picks (weekP (recipe 1 1 ∷ recipe 2 1 ∷ [])) is (255 ∷ 255 ∷ 255 ∷ 255 ∷ 255 ∷ []))
     ∷ []
-
-same : List ℕ → List ℕ → Bool
-same [] [] = true
-same [] (y ∷ ys) = false
-same (x ∷ xs) [] = false
-same (x ∷ xs) (y ∷ ys) = eqb x y && same xs ys
-
-agree : List Example → Bool
-agree [] = true
-agree (e ∷ es) = same (e .said) (e .written) && agree es
 
 examples : agree table ≡ true
 unfolding

@@ -9,10 +9,9 @@ use week::record::Week;
 use week::refusal::Refusal;
 ghost use mathlib.Core.Path.{_≡_};
 ghost use mathlib.Core.Logic.{_↔_};
-ghost use Prim.Native.Nat.{_≤_};
 ghost use lib.ListN.{length};
 ghost use Rattle.week.specs.Fault.{WellFormed};
-ghost use Rattle.planner.specs.Choose.{widthOf, fillFault, chooseAnswer, tableAfter, refusedPlan};
+ghost use Rattle.planner.specs.Choose.{widthOf, tableFault, fillFault, chooseAnswer, tableAfter, refusedPlan};
 ghost use Rattle.planner.specs.Choose.{Fills, PicksTable, BestPlan, NoPlan, LongEnough};
 
 // Choose's answer: for each batch, in list order, its recipe, and the total; or the refusal.
@@ -36,10 +35,20 @@ impl Plan {
 
 // The entries of a row of the table: the minutes from opening to closing, both counted.
 fn row_width(week: Week) -> usize
-    requires { ⌜ week .opening ≤ week .closing ⌝ }
     ensures { λ r. ⌜ r ≡ widthOf week ⌝ }
 {
     span(week) + 1
+}
+
+// 11: whether a table of `size` bytes is too short. A quotient is compared, since n × (c − t + 1) could wrap where the list is not
+// well formed.
+pub fn table_fault(week: Week, size: usize) -> Refusal
+    ensures { λ r. ⌜ r ≡ tableFault week size ⌝ }
+{
+    if size / row_width(week) < week.count {
+        return Refusal::at(11, 0, 0);
+    }
+    Refusal::none()
 }
 
 // What refuses to fill a table of `size` bytes: refusals 1 to 10, then 11.
@@ -50,10 +59,7 @@ fn fill_fault(week: Week, size: usize) -> Refusal
     if fault.number != 0 {
         return fault;
     }
-    if size < week.count * row_width(week) {
-        return Refusal::at(11, 0, 0);
-    }
-    Refusal::none()
+    table_fault(week, size)
 }
 
 // The answer and every byte of the table at exit, on every input. Then what follows from these: document 01's sentence on the

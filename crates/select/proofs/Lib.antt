@@ -1,6 +1,7 @@
 pub mod Patches
 pub mod Takes
 pub mod Offers
+pub mod Resets
 pub mod Cells
 pub mod Rows
 pub mod Picks

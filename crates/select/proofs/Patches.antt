@@ -64,19 +64,3 @@ module _ {g : ℕ → ℕ} {a b : ℕ} {old new : List ℕ} (h : Patched g a b o
             ];
         kept = λ m out. then .kept m (λ i. out (omega arith)) ∙ h .kept m (λ i. out (omega arith));
       }
-
--- a loop over the entries below n, which stands at m
-pub record Patching (g : ℕ → ℕ) (n : ℕ) (old new : List ℕ) (m : ℕ) : Type 0 where
-  pub to : m ≤ n
-  pub patched : Patched g 0 m old new
-
-pub patching-start : (g : ℕ → ℕ) (n : ℕ) (old : List ℕ) → Patching g n old old 0
-patching-start g n old = record { to = omega arith; patched = patched-start g 0 old }
-
-module _ {g : ℕ → ℕ} {n : ℕ} {old new : List ℕ} {m : ℕ} (h : Patching g n old new m) where
-  pub patching-step : m < n → n ≤ length old → {x : ℕ} → x ≡ g m → Patching g n old (set new m x) (m + 1)
-  patching-step more low e =
-      record { to = omega arith; patched = patched-step (h .patched) (omega arith) (omega arith) e }
-
-  pub patching-end : n ≤ m → Patched g 0 n old new
-  patching-end over = let all : m ≡ n = omega (arith, h .to) in rw all at (h .patched)

@@ -1,87 +1,96 @@
 -- The table, job by job: what holds of its rows and of the scores after the first i jobs.
-use Prim.Native.Nat.{ℕ, zero, suc, _+_, _*_, _≤_, _<_}
+use Prim.Native.Nat.{ℕ, _+_, _*_, _≤_, _<_}
 use native.Mathlib.Nat.{mul-le-mul-right}
 use native.Mathlib.Numerals.{add-one}
 use native.Mathlib.Omega.{arith}
 use mathlib.Core.Path.{_≡_, refl, sym, ap, _∙_}
 use mathlib.Core.List.{List, [], _∷_, _++_}
-use lib.ListN.{length, getD, take, drop, replicate, length-take, length-drop, length-replicate, getD-replicate}
+use lib.ListN.{length, getD, take, drop, replicate, length-replicate, getD-replicate}
 use Rattle.jobs.specs.declared.model.Job.{Job}
 use Rattle.jobs.specs.declared.model.JobList.{JobList}
-use Rattle.jobs.specs.Model.{maxJobs, max32, noJob, backward, tabulate}
-use Rattle.jobs.specs.Best.{best, pick}
+use Rattle.jobs.specs.Model.{maxVersions, max32, noJob, backward, jobsOf}
+use Rattle.jobs.specs.Best.{best}
 use Rattle.jobs.proofs.Places.{length-backward}
-use Rattle.select.specs.Row.{rowLength, score, Low, Scored, FilledRow}
+use Rattle.select.specs.Row.{score, Low, FilledRow, AfterJobs, FilledJob}
 use Rattle.select.specs.Table.{filled}
 use Rattle.select.specs.Contract.{Fillable}
 use Rattle.select.proofs.Picks.{length-filled, filled-none, filled-more}
+use Rattle.select.proofs.Resets.{replicate-low}
 
 -- of no jobs there is one choice, whose total is 0
 score-none : (x : ℕ) → score [] x ≡ 1
 unfolding best
 score-none x = refl
 
-replicate-low : (n s m : ℕ) → getD (replicate n s) m 0 ≤ s
-replicate-low zero s m = omega arith
-replicate-low (suc n) s zero = omega arith
-replicate-low (suc n) s (suc m) = replicate-low n s m
-
--- the row of job i lies in the table
-pub row-inside : {list : JobList} {t w size : ℕ} → Fillable list t w size → (i : ℕ) → i < list .count → i * w + w ≤ size
-row-inside {w = w} fillable i more = omega (arith, mul-le-mul-right w more)
-
--- after i of n jobs, in a table that was table₀
-pub record Table (jobs : List Job) (n t w : ℕ) (table₀ table before scores : List ℕ) (i : ℕ) : Type 0 where
-  pub most : i ≤ n
-  pub size : (length table ≡ length table₀) × (length before ≡ rowLength) × (length scores ≡ rowLength)
-  pub low : (m : ℕ) → (getD before m 0 ≤ 1 + i * max32) × (getD scores m 0 ≤ 1 + i * max32)
-  pub scored : Scored (backward noJob jobs i) t w scores
-  pub done : table ≡ filled (backward noJob jobs i) t w table₀
-
-pub table-start : (jobs : List Job) (n t w : ℕ) (table₀ : List ℕ) → w ≤ rowLength → {before scores : List ℕ} →
-    before ≡ replicate rowLength 0 → scores ≡ replicate rowLength 1 → Table jobs n t w table₀ table₀ before scores 0
-table-start jobs n t w table₀ wide none one =
-    rw (none, one)
+after-start : {t w : ℕ} {table scores : List ℕ} → scores ≡ replicate w 1 → AfterJobs [] t w table scores table
+after-start {t} {w} {table} one =
+    rw one
     record {
-      most = omega arith;
-      size = (refl, length-replicate {A = ℕ} rowLength 0, length-replicate {A = ℕ} rowLength 1);
-      low = λ m. (omega (arith, replicate-low rowLength 0 m), replicate-low rowLength 1 m);
-      scored = λ m inside. getD-replicate {A = ℕ} rowLength m 1 0 (omega arith) ∙ sym (score-none (t + m));
-      done = sym (filled-none t w table₀);
+      size = length-replicate {A = ℕ} w 1;
+      low = λ m. replicate-low w 1 m;
+      scored = λ m inside. getD-replicate {A = ℕ} w m 1 0 inside ∙ sym (score-none (t + m));
+      done = sym (filled-none t w table);
     }
 
-module _
-    {jobs : List Job} {n t w : ℕ} {table₀ table before scores : List ℕ} {i : ℕ}
-    (h : Table jobs n t w table₀ table before scores i)
-  where
-    -- both rows of scores leave room for a worth more
-    pub table-low : n ≤ maxJobs → i < n → ((m : ℕ) → Low (getD before m 0)) × ((m : ℕ) → Low (getD scores m 0))
-    table-low few more = (λ m. omega (arith, h .low m), λ m. omega (arith, h .low m))
+-- one job more, in place i: the k entries from i * w on are lent, and come back as its row
+pub after-step : {js : List Job} {t w : ℕ} {table₀ before table : List ℕ} → AfterJobs js t w table₀ before table →
+    (i : ℕ) → length js ≡ i → (k : ℕ) → k ≡ w → {j : Job} {scores row : List ℕ} → FilledRow j t w before scores row →
+    AfterJobs (j ∷ js) t w table₀ scores (take (i * w) table ++ (row ++ drop k (drop (i * w) table)))
+after-step {js} {t} {w} {table₀} h i place k same {j} filling =
+    record {
+      size = filling .size;
+      low = λ m. omega (arith, filling .low (1 + length js * max32) (h .low) m);
+      scored = filling .scored js (h .scored);
+      done = rw same (filled-more j js t w (i * w) table₀ (rw place) (h .done) (filling .picked js (h .scored)));
+    }
 
-    -- one job: the k entries from i * w on are lent, and come back as its row
-    pub table-step : i < n → i * w + w ≤ length table₀ → (k : ℕ) → k ≡ w → {before′ scores′ row : List ℕ} →
-        FilledRow (getD jobs i noJob) t before scores (take k (drop (i * w) table)) before′ scores′ row →
-        Table jobs n t w table₀ (take (i * w) table ++ (row ++ drop k (drop (i * w) table))) before′ scores′ (i + 1)
-    table-step more inside k same {row = row} filling =
-        let j = getD jobs i noJob in
-        let js = backward noJob jobs i in
-        let count = length-backward noJob jobs i in
-        let long : length (j ∷ js) * w ≤ length table₀ = rw count (omega arith) in
-        let part : length (take k (drop (i * w) table)) ≡ w = simp (length-take, length-drop) (omega arith) in
-        let exact : row ≡ tabulate (pick (j ∷ js)) t w = (rw part at (filling .picked js)) (h .scored) in
-        let whole = filled-more j js t w (i * w) table₀ (rw count) (h .done) exact in
-        let low = filling .low (1 + i * max32) (λ m. h .low m .0) (λ m. h .low m .1) in
+-- two rows take turns: after i jobs one has their scores, and the other is free
+pub record Turn (list : JobList) (t w : ℕ) (table₀ before scores table : List ℕ) (i : ℕ) : Type 0 where
+  pub fillable : Fillable list t w (length table₀)
+  pub most : i ≤ list .count
+  pub free : length scores ≡ w
+  pub after : AfterJobs (backward noJob (list .jobs) i) t w table₀ before table
+
+pub turn-start : {list : JobList} {t w : ℕ} {table before scores : List ℕ} → Fillable list t w (length table) →
+    before ≡ replicate w 1 → length scores ≡ w → Turn list t w table before scores table 0
+turn-start fillable one free = record { fillable = fillable; most = omega arith; free = free; after = after-start one }
+
+module _
+    {list : JobList} {t w : ℕ} {table₀ before scores table : List ℕ} {i : ℕ}
+    (h : Turn list t w table₀ before scores table i)
+  where
+    count : length (backward noJob (list .jobs) i) ≡ i
+    count = length-backward noJob (list .jobs) i
+
+    -- the table keeps its length
+    pub turn-size : length table ≡ length table₀
+    turn-size =
+        let long : length (backward noJob (list .jobs) i) * w ≤ length table₀ =
+        rw count (omega (arith, mul-le-mul-right w (h .most), h .fillable .long))
+        in
+        ap length (h .after .done) ∙ length-filled _ t w table₀ long
+
+    -- what job i asks: its row lies in the table, and the scores leave room for a worth more
+    pub turn-asks : i < list .count →
+        ((getD (list .jobs) i noJob .count ≤ maxVersions) × (t ≤ getD (list .jobs) i noJob .ready) × (i * w + w ≤ length table))
+        × (((length before ≡ w) × (length scores ≡ w)) × ((m : ℕ) → Low (getD before m 0)))
+    turn-asks more =
+        let inside : i * w + w ≤ length table = omega (arith, turn-size, mul-le-mul-right w more, h .fillable .long) in (
+          (h .fillable .few i more, h .fillable .ready i more, inside),
+          ((h .after .size, h .free), λ m. omega (arith, h .after .low m, h .fillable .most, count)),
+        )
+
+    -- job i: the rows change places
+    pub turn-step : i < list .count → {scores′ table′ : List ℕ} →
+        FilledJob (getD (list .jobs) i noJob) i t w before table scores′ table′ →
+        Turn list t w table₀ scores′ before table′ (i + 1)
+    turn-step more filling =
         record {
+          fillable = h .fillable;
           most = omega arith;
-          size = (
-            rw same (ap length whole ∙ length-filled (j ∷ js) t w table₀ long),
-            filling .size .0 ∙ h .size .1,
-            filling .size .1 ∙ h .size .2,
-          );
-          low = λ m. (omega (arith, low m), omega (arith, low m));
-          scored = rw add-one ((rw part at (filling .scored js)) (h .scored));
-          done = rw (add-one, same) whole;
+          free = h .after .size;
+          after = rw add-one (filling _ table₀ count (h .after));
         }
 
-    pub table-end : i ≡ n → table ≡ filled (backward noJob jobs n) t w table₀
-    table-end all = rw all at (h .done)
+    pub turn-end : i ≡ list .count → table ≡ filled (jobsOf list) t w table₀
+    turn-end all = rw all at (h .after .done)

@@ -54,7 +54,7 @@ module _ {k : ℕ} {scores picks : List ℕ} where
         (λ m. cond-both (λ s. s ≤ most) (ltb (getD scores m 0) (offer m)) (offers m) (stood m)) stood
 
     -- the offer x at entry b is greater than the score that stands
-    taken-more : a ≤ b → b < length scores → b < length picks → {x : ℕ} → x ≡ offer b → getD scores′ b 0 < x →
+    pub taken-more : a ≤ b → b < length scores → b < length picks → {x : ℕ} → x ≡ offer b → getD scores′ b 0 < x →
         Taken offer k a (b + 1) scores picks (set scores′ b x) (set picks′ b k)
     taken-more from low low′ e more =
         let test = lt-ltb (getD scores b 0) (offer b) (omega (arith, e, h .scored .kept b (λ i. omega arith))) in
@@ -64,7 +64,7 @@ module _ {k : ℕ} {scores picks : List ℕ} where
         }
 
     -- it is not
-    taken-less : a ≤ b → offer b ≤ getD scores′ b 0 → Taken offer k a (b + 1) scores picks scores′ picks′
+    pub taken-less : a ≤ b → offer b ≤ getD scores′ b 0 → Taken offer k a (b + 1) scores picks scores′ picks′
     taken-less from less =
         let low : offer b ≤ getD scores b 0 = omega (arith, h .scored .kept b (λ i. omega arith)) in
         taken-widen a (b + 1) (λ m l u. omega arith)
@@ -84,19 +84,15 @@ module _
     (h : Taking offer k a b scores picks scores′ picks′ m)
   where
     -- one entry: x is its offer
-    pub taking-step : m < b → b ≤ length scores → b ≤ length picks → {x : ℕ} → x ≡ offer m → {scores″ picks″ : List ℕ} →
-        ((getD scores′ m 0 < x) × (scores″ ≡ set scores′ m x) × (picks″ ≡ set picks′ m k))
-        ⊎ ((x ≤ getD scores′ m 0) × (scores″ ≡ scores′) × (picks″ ≡ picks′)) →
-        Taking offer k a b scores picks scores″ picks″ (m + 1)
-    taking-step more low low′ e came =
+    pub taking-step : m < b → {x : ℕ} → x ≡ offer m → {scores″ picks″ : List ℕ} →
+        Taken (λ i. x) k m (m + 1) scores′ picks′ scores″ picks″ → Taking offer k a b scores picks scores″ picks″ (m + 1)
+    taking-step more e then =
         record {
           from = omega arith;
           to = omega arith;
           taken =
-              ⊎-elim
-              (λ w. rw (w .1, w .2) (taken-more (h .taken) (h .from) (omega arith) (omega arith) e (w .0)))
-              (λ w. rw (w .1, w .2) (taken-less (h .taken) (h .from) (omega (arith, w .0))))
-              came;
+              taken-join (h .taken) (h .from) (omega arith)
+              (taken-same then (λ i l u. let at : m ≡ i = omega arith in rw at at e));
         }
 
     pub taking-end : b ≤ m → Taken offer k a b scores picks scores′ picks′

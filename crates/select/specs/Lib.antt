@@ -1,3 +1,3 @@
-pub mod Row
 pub mod Table
+pub mod Row
 pub mod Contract

@@ -1,5 +1,5 @@
 -- One row of the programme, as numbers: what each of its functions leaves. Entry m of a row is for the close t + m.
-use Prim.Native.Nat.{ℕ, suc, _+_, _-_, _≤_, _<_}
+use Prim.Native.Nat.{ℕ, suc, _+_, _-_, _*_, _≤_, _<_}
 use mathlib.Core.Path.{_≡_}
 use mathlib.Core.Bool.{cond}
 use mathlib.Core.List.{List, _∷_}
@@ -12,6 +12,7 @@ use Rattle.jobs.specs.Model.{maxSpan, max32, tabulate}
 use Rattle.jobs.specs.Rule.{fits, nextBound}
 use Rattle.jobs.specs.Choice.{total}
 use Rattle.jobs.specs.Best.{best, pick}
+use Rattle.select.specs.Table.{filled}
 
 -- the entries of a row for the longest week
 abbrev pub rowLength : ℕ
@@ -59,20 +60,26 @@ pub record Offered (offer : ℕ → ℕ) (k : ℕ) (before scores picks scores�
   pub low : (b : ℕ) → ((m : ℕ) → getD before m 0 ≤ b) → ((m : ℕ) → getD scores m 0 ≤ b + max32) →
       (m : ℕ) → getD scores′ m 0 ≤ b + max32
 
--- a new row: its entries are 0, and those of the row before are the scores that stood
-pub record OpenedRow (before scores picks before′ scores′ picks′ : List ℕ) : Type 0 where
-  pub moved : Patched (λ m. getD scores m 0) 0 (length picks) before before′
-  pub scored : Patched (λ m. 0) 0 (length picks) scores scores′
-  pub picked : Patched (λ m. 0) 0 (length picks) picks picks′
-
 -- a row has the scores of the jobs js at each of the w closes from t on
 abbrev pub Scored : List Job → ℕ → ℕ → List ℕ → Type 0
 Scored js t w scores = (m : ℕ) → m < w → getD scores m 0 ≡ score js (t + m)
 
--- the row of job j: from the scores of the jobs before it, whatever they are, its scores and its picks
-pub record FilledRow (j : Job) (t : ℕ) (before scores picks before′ scores′ picks′ : List ℕ) : Type 0 where
-  pub size : (length before′ ≡ length before) × (length scores′ ≡ length scores)
-  pub scored : (js : List Job) → Scored js t (length picks) scores → Scored (j ∷ js) t (length picks) scores′
-  pub picked : (js : List Job) → Scored js t (length picks) scores → picks′ ≡ tabulate (pick (j ∷ js)) t (length picks)
-  pub low : (b : ℕ) → ((m : ℕ) → getD before m 0 ≤ b) → ((m : ℕ) → getD scores m 0 ≤ b) →
-      (m : ℕ) → (getD before′ m 0 ≤ b) × (getD scores′ m 0 ≤ b + max32)
+-- the row of job j, of w entries: from the scores of the jobs before it, whatever they are, its scores and its picks
+pub record FilledRow (j : Job) (t w : ℕ) (before scores picks : List ℕ) : Type 0 where
+  pub size : length scores ≡ w
+  pub scored : (js : List Job) → Scored js t w before → Scored (j ∷ js) t w scores
+  pub picked : (js : List Job) → Scored js t w before → picks ≡ tabulate (pick (j ∷ js)) t w
+  pub low : (b : ℕ) → ((m : ℕ) → getD before m 0 ≤ b) → (m : ℕ) → getD scores m 0 ≤ b + max32
+
+-- what the jobs js leave: their scores, and their rows of picks in a table that was table₀
+pub record AfterJobs (js : List Job) (t w : ℕ) (table₀ scores table : List ℕ) : Type 0 where
+  pub size : length scores ≡ w
+  pub low : (m : ℕ) → getD scores m 0 ≤ 1 + length js * max32
+  pub scored : Scored js t w scores
+  pub done : table ≡ filled js t w table₀
+
+-- what job j leaves after any i jobs, from what they leave
+abbrev pub FilledJob : Job → ℕ → ℕ → ℕ → List ℕ → List ℕ → List ℕ → List ℕ → Type 0
+FilledJob j i t w before table scores table′ =
+    (js : List Job) (table₀ : List ℕ) → length js ≡ i → AfterJobs js t w table₀ before table →
+    AfterJobs (j ∷ js) t w table₀ scores table′

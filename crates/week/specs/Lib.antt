@@ -1,3 +1,4 @@
 pub mod Record
 pub mod Refusal
 pub mod Fault
+pub mod Example

@@ -1,6 +1,5 @@
 -- `choose` meets its contract: each return is one of the cases of `Choosing`, and what the buyer asks follows.
 use Prim.Native.Nat.{ℕ, _*_, _≤_}
-use native.Mathlib.Omega.{arith}
 use mathlib.Core.Path.{_≡_, sym, ap, ap₂, _∙_}
 use mathlib.Core.Logic.{_↔_}
 use mathlib.Core.List.{List}
@@ -21,10 +20,10 @@ use Rattle.week.proofs.Owned.{worths-fit}
 use Rattle.week.proofs.Sound.{Sound, sound}
 use Rattle.planner.specs.declared.choose.Plan.{Plan}
 use Rattle.planner.specs.Job.{weekJobs}
-use Rattle.planner.specs.Choose.{widthOf, fillFault, refusedPlan, planOf, chooseAnswer, tableAfter}
+use Rattle.planner.specs.Choose.{weekBest, widthOf, fillFault, refusedPlan, planOf, chooseAnswer, tableAfter}
 use Rattle.planner.specs.Choose.{Fills, PicksTable, BestPlan, NoPlan, LongEnough}
 use Rattle.planner.proofs.Jobs.{answerable, fillable}
-use Rattle.planner.proofs.Choosing.{weekBest, faultless, long-enough, plan-refused, plan-passed, table-kept, table-filled}
+use Rattle.planner.proofs.Choosing.{faultless, long-enough, plan-refused, plan-passed, table-kept, table-filled}
 use Rattle.planner.proofs.ReadOff.{readable, ReadOff, read-none, read-some, read-names, read-answer}
 use Rattle.planner.proofs.Demands.{choose-fills, choose-best, choose-none}
 use Rattle.planner.proofs.choose.choose.Statement.{statement}
@@ -122,7 +121,7 @@ returns c =
     kept _ _ _ (sym (c .before .before .before .fill-fault .ensures)) (c .before .if1 .taken) (c .refused .ensures)
 
 row-width-requires : tie.Need-row-width-requires
-row-width-requires c κs = omega (arith, fine c .opens)
+row-width-requires c κs = search needs
 
 jobs-of-requires : tie.Need-jobs-of-requires
 jobs-of-requires c κs = search needs

@@ -126,7 +126,7 @@ workload-of-requires c κs =
     rw (c .jobs-of .ensures) (handed-names _ (fine no) (named _ _ (number-of (passed-all no .1))))
 
 span-requires : tie.Need-span-requires
-span-requires c κs = omega (arith, fine (c .before .before) .opens)
+span-requires c κs = search needs
 
 sub-run-work : tie.Need-sub-run-work
 sub-run-work c = search needs

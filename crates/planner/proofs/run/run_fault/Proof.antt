@@ -1,12 +1,9 @@
 -- `run_fault` meets its contract: the list or the choice is refused, or the log is too short, or neither.
-use native.Mathlib.Omega.{arith}
 use mathlib.Core.Path.{_≡_, sym, _∙_}
 use borrow.Author.Needs.{needs}
 use Rattle.week.specs.Fault.{handedFault}
 use Rattle.week.proofs.First.{number-of, refuses-too, short-refuses}
-use Rattle.week.proofs.Sound.{sound}
 use Rattle.planner.specs.Run.{logFault}
-use Rattle.planner.proofs.Handed.{passed-handed}
 use Rattle.planner.proofs.Running.{run-handed, run-log, long-log}
 use Rattle.planner.proofs.run.run_fault.Statement.{statement}
 use Rattle.planner.proofs.run.run_fault.Tie as tie
@@ -26,7 +23,7 @@ returns c =
     fault ∙ sym (run-handed _ _ _ (refuses-too fault (c .if1 .taken)))
 
 span-requires : tie.Need-span-requires
-span-requires c κs = omega (arith, sound _ (number-of (passed-handed _ _ (passed-both c) .0)) .opens)
+span-requires c κs = search needs
 
 at-requires : tie.Need-at-requires
 at-requires c κs = search needs

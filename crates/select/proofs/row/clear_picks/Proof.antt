@@ -1,23 +1,25 @@
--- `clear_picks` meets its contract. The loop's invariant is that of a patch; the measure is how many entries are left.
+-- `clear_picks` meets its contract. The loop's invariant is that of a row which is set; the measure is how many entries are left.
 use borrow.Author.Needs.{needs}
 use native.Mathlib.Omega.{arith}
 use Prim.Native.Nat.{_-_}
 use mathlib.Core.Path.{refl}
-use Rattle.select.proofs.Patches.{Patching, patching-start, patching-step, patching-end}
+use lib.ListN.{length}
+use Rattle.jobs.proofs.Fills.{Tabulated, tabulated-start, tabulated-step}
+use Rattle.select.proofs.Resets.{reset-size, reset-end}
 use Rattle.select.proofs.row.clear_picks.Statement.{statement}
 use Rattle.select.proofs.row.clear_picks.Tie as tie
 
 abbrev Inv-loop : tie.InvT-loop
-Inv-loop picks₀ m₀ m-end picks m = Patching (λ i. 0) m-end picks₀ picks m
+Inv-loop picks₀ m₀ m-end picks m = Tabulated (λ i. 0) (length picks₀) 0 m picks
 
 abbrev μ-loop : tie.MeasureT-loop
 μ-loop picks₀ m₀ m-end picks m = m-end - m
 
 loop-holds : tie.Need-loop-holds Inv-loop μ-loop
-loop-holds c = patching-start _ _ _
+loop-holds c = tabulated-start _ _ _ _ refl
 
 slice-write-picks : tie.Need-slice-write-picks Inv-loop μ-loop
-slice-write-picks c = search needs
+slice-write-picks c = omega (arith, reset-size (c .before .loop .inv))
 
 add-m : tie.Need-add-m Inv-loop μ-loop
 add-m c = search needs
@@ -26,13 +28,13 @@ loop-less : tie.Need-loop-less Inv-loop μ-loop
 loop-less c = search needs
 
 loop-again : tie.Need-loop-again Inv-loop μ-loop
-loop-again c = patching-step (c .before .loop .inv) (omega arith) (omega arith) refl
+loop-again c = tabulated-step (c .before .loop .inv) (omega arith) refl
 
 same-length : tie.Need-same-length Inv-loop μ-loop
-same-length c = c .before .loop .inv .patched .size
+same-length c = reset-size (c .before .loop .inv)
 
 returns : tie.Need-returns Inv-loop μ-loop
-returns c = patching-end (c .before .loop .inv) (omega arith)
+returns c = reset-end (c .before .loop .inv) (omega arith)
 
 pub clear-picks-spec : {M : Type 1} → statement M
 clear-picks-spec =

@@ -1,0 +1,55 @@
+-- `set_scores` meets its contract. The loop's invariant is that of a row which is set; the measure is how many entries are left.
+use borrow.Author.Needs.{needs}
+use native.Mathlib.Omega.{arith}
+use Prim.Native.Nat.{_-_}
+use mathlib.Core.Path.{refl}
+use lib.ListN.{length}
+use Rattle.jobs.proofs.Fills.{Tabulated, tabulated-start, tabulated-step}
+use Rattle.select.proofs.Resets.{reset-size, reset-end}
+use Rattle.select.proofs.row.set_scores.Statement.{statement}
+use Rattle.select.proofs.row.set_scores.Tie as tie
+
+abbrev Inv-loop : tie.InvT-loop
+Inv-loop scores₀ score m₀ m-end scores m = Tabulated (λ i. score) (length scores₀) 0 m scores
+
+abbrev μ-loop : tie.MeasureT-loop
+μ-loop scores₀ score m₀ m-end scores m = m-end - m
+
+loop-holds : tie.Need-loop-holds Inv-loop μ-loop
+loop-holds c = tabulated-start _ _ _ _ refl
+
+mul-scores : tie.Need-mul-scores Inv-loop μ-loop
+mul-scores c = search needs
+
+slice-write-scores : tie.Need-slice-write-scores Inv-loop μ-loop
+slice-write-scores c = omega (arith, reset-size (c .before .loop .inv))
+
+add-m : tie.Need-add-m Inv-loop μ-loop
+add-m c = search needs
+
+loop-less : tie.Need-loop-less Inv-loop μ-loop
+loop-less c = search needs
+
+loop-again : tie.Need-loop-again Inv-loop μ-loop
+loop-again c = tabulated-step (c .before .loop .inv) (omega arith) refl
+
+same-length : tie.Need-same-length Inv-loop μ-loop
+same-length c = reset-size (c .before .loop .inv)
+
+returns : tie.Need-returns Inv-loop μ-loop
+returns c = reset-end (c .before .loop .inv) (omega arith)
+
+pub set-scores-spec : {M : Type 1} → statement M
+set-scores-spec =
+    tie.close
+    (tie.spec
+    Inv-loop
+    μ-loop
+    loop-holds
+    mul-scores
+    slice-write-scores
+    add-m
+    loop-less
+    loop-again
+    same-length
+    returns)

@@ -1,0 +1,15 @@
+pub mod Digits
+pub mod Values
+pub mod HexLines
+pub mod Frames
+pub mod Lines
+pub mod Reached
+pub mod LinesWhole
+pub mod LinesFault
+pub mod Placed
+pub mod Listed
+pub mod Beyond
+pub mod Reading
+pub mod Written
+pub mod Numbers
+pub mod Demands

@@ -1,0 +1,90 @@
+-- The control program's call: what it answers, and what it leaves in the picks table and in the recipe buffer, on every sheet and
+-- every size of the two.
+use Prim.Native.Nat.{ℕ}
+use mathlib.Core.Path.{_≡_}
+use mathlib.Core.Logic.{_⊎_}
+use mathlib.Core.Bool.{Bool, _&&_, _||_}
+use mathlib.Core.List.{List, [], _∷_, _++_}
+use lib.ListN.{length, take, drop}
+use lib.Dec.{leb, eqb}
+use lib.IntN.{ℤ, pos, negℤ}
+use Rattle.jobs.specs.Choice.{total}
+use Rattle.jobs.specs.Best.{Chosen}
+use Rattle.week.specs.declared.record.Week.{Week}
+use Rattle.week.specs.declared.refusal.Refusal.{Refusal}
+use Rattle.week.specs.Refusal.{accepted, orElse, firstOf, shortFault, unlessRefused}
+use Rattle.planner.specs.Job.{weekJobs}
+use Rattle.planner.specs.Check.{weekChoice}
+use Rattle.planner.specs.Choose.{tableFault, planFault, weekBest, planChoice, chooseAnswer, tableAfter}
+use Rattle.planner.specs.Run.{logAfter, LongLog, InTime}
+use Rattle.sheet.specs.List.{sheetWeek}
+use Rattle.sheet.specs.Read.{readFault}
+
+-- "19: recipe buffer shorter than n."
+unfoldable pub bufferFault : Week → ℕ → Refusal
+bufferFault w size = shortFault 19 (w .count) size
+
+-- "11; .. 19": what is lent is too short. The sizes are those of the picks table and of the recipe buffer.
+unfoldable pub lentFault : Week → (table buffer : ℕ) → Refusal
+lentFault w table buffer = firstOf (tableFault w table ∷ bufferFault w buffer ∷ [])
+
+-- the refusals that keep all that is lent, in their order: "Order: 18; then line by line 16, 17; then 1, 2, 3; then batch by batch
+-- 4 to 10 ..; 11; .. 19"
+unfoldable pub keepFault : List ℕ → (table buffer : ℕ) → Refusal
+keepFault sheet table buffer = orElse (readFault sheet) (lentFault (sheetWeek sheet) table buffer)
+
+-- and all of the call's: ".. then 14"
+unfoldable pub callFault : List ℕ → (table buffer : ℕ) → Refusal
+callFault sheet table buffer = orElse (keepFault sheet table buffer) (planFault (weekBest (sheetWeek sheet)))
+
+-- "minus the refusal number"
+abbrev pub minusOf : ℕ → ℤ
+minusOf number = negℤ (pos number)
+
+-- "It gets the total, or minus the refusal number."
+unfoldable pub callAnswer : List ℕ → (table buffer : ℕ) → ℤ
+callAnswer sheet table buffer =
+    unlessRefused (callFault sheet table buffer)
+    (pos (chooseAnswer (sheetWeek sheet) table .total))
+    (minusOf (callFault sheet table buffer .number))
+
+-- "Choosing fills a lent table of bytes." "The table is filled as well when refusal 14 is given." "Only 14 alters lent memory (the
+-- picks table)."
+unfoldable pub picksAfter : List ℕ → (picks : List ℕ) (buffer : ℕ) → List ℕ
+picksAfter sheet picks buffer = unlessRefused (keepFault sheet (length picks) buffer) (tableAfter (sheetWeek sheet) picks) picks
+
+-- "Acceptance writes one byte a batch and keeps the rest of that buffer."
+unfoldable pub recipesAfter : List ℕ → (table : ℕ) (recipes : List ℕ) → List ℕ
+recipesAfter sheet table recipes =
+    let w = sheetWeek sheet in
+    unlessRefused (callFault sheet table (length recipes))
+    (planChoice w (chooseAnswer w table) ++ drop (w .count) recipes)
+    recipes
+
+-- an answer that is a total: it is not negative
+abbrev pub Planned : ℤ → Type 0
+Planned answer = (sum : ℕ) × (answer ≡ pos sum)
+
+-- an answer with which the table is filled: a total, or minus 14
+abbrev pub Fills : ℤ → Type 0
+Fills answer = Planned answer ⊎ (answer ≡ minusOf 14)
+
+-- the numbers that the call can refuse with: 1 to 11, 14, 16 to 19
+abbrev pub callNumber : ℕ → Bool
+callNumber n = leb n 11 || (eqb n 14 || (leb 16 n && leb n 19))
+
+-- the choice that a buffer holds: one recipe a batch
+abbrev pub bufferChoice : Week → List ℕ → List ℕ
+bufferChoice w recipes = take (w .count) recipes
+
+-- demand 3 of the call: "The chosen plan meets the rule and its total is the sum of its worths; every other choice that meets the
+-- rule has a smaller total, or the same total and a higher recipe number at the last batch where the two differ"; "in the
+-- station's run of the chosen plan the minutes each batch gets before its stretch ends number exactly its recipe's minutes"
+pub record BestCall (w : Week) (recipes : List ℕ) (answer : ℤ) : Type 0 where
+  pub chosen : Chosen (weekJobs w) (w .closing) (weekChoice w (bufferChoice w recipes))
+  pub summed : answer ≡ pos (total (weekJobs w) (weekChoice w (bufferChoice w recipes)))
+  pub in-time : (log : List ℕ) → LongLog w (length log) → InTime w (bufferChoice w recipes) (logAfter w (bufferChoice w recipes) log)
+
+-- 01, "The words of demand 3": "A table is long enough if 11 does not hold, a recipe buffer if 19 does not."
+abbrev pub LongBuffer : Week → ℕ → Type 0
+LongBuffer w size = bufferFault w size ≡ accepted

@@ -1,0 +1,37 @@
+//! The call of the planner a second time, from the text of document 01: three ways to find the best plan under one
+//! reading of the sheet.
+
+mod call;
+mod every_choice;
+mod frame;
+mod list;
+mod plan;
+mod recursion;
+mod refusal;
+mod rule;
+mod same_loops;
+mod sheet;
+mod week;
+
+pub use every_choice::tries;
+pub use sheet::write;
+pub use week::{Batch, Recipe, Week};
+
+/// The shape of the planner's call, and of each of the three: a sheet, a picks table and a recipe buffer, answering
+/// the total or minus the refusal number.
+pub type Call = fn(&[u8], &mut [u8], &mut [u8]) -> i32;
+
+/// By trying every choice: for each batch and each close, all choices of the batches up to it.
+pub fn every_choice(sheet: &[u8], picks: &mut [u8], recipes: &mut [u8]) -> i32 {
+    call::answer(sheet, picks, recipes, every_choice::plan)
+}
+
+/// By the recursion of source document 000, cell by cell.
+pub fn recursion(sheet: &[u8], picks: &mut [u8], recipes: &mut [u8]) -> i32 {
+    call::answer(sheet, picks, recipes, recursion::plan)
+}
+
+/// By the same recursion, in the order in which the planner goes: recipes outside, minutes inside.
+pub fn same_loops(sheet: &[u8], picks: &mut [u8], recipes: &mut [u8]) -> i32 {
+    call::answer(sheet, picks, recipes, same_loops::plan)
+}

@@ -1,0 +1,33 @@
+//! Document 01, "The desk, with a list": refusals 1 to 10, "then 1, 2, 3; then batch by batch 4 to 10, each batch
+//! whole before the next".
+
+use crate::refusal::Refusal;
+use crate::week::{Batch, Week};
+
+pub fn judge(week: &Week) -> Result<(), Refusal> {
+    Refusal::CloseNotAfterOpening.when(week.closing <= week.opening)?;
+    Refusal::WeekTooLong.when(week.closing - week.opening > Week::MAX_MINUTES)?;
+    Refusal::TooManyBatches.when(week.batches.len() > Week::MAX_BATCHES)?;
+    (0..week.batches.len()).try_for_each(|i| judge_batch(week, i))
+}
+
+/// The batch with index i, after the batches before it.
+fn judge_batch(week: &Week, i: usize) -> Result<(), Refusal> {
+    let (earlier, batch) = (&week.batches[..i], &week.batches[i]);
+    let count = batch.recipes.len();
+    Refusal::RecipeCount.when(count == 0 || count > Batch::MAX_RECIPES)?;
+    Refusal::DueNotAfterArrival.when(batch.due <= batch.arrival)?;
+    Refusal::ArrivalNotBeforeClose.when(batch.arrival >= week.closing)?;
+    judge_recipes(batch)?;
+    let number = batch.number;
+    Refusal::BatchNumber.when(number == 0 || earlier.iter().any(|other| other.number == number))?;
+    let before = earlier.last();
+    Refusal::BatchOrder.when(before.is_some_and(|other| week.order(other) >= week.order(batch)))
+}
+
+fn judge_recipes(batch: &Batch) -> Result<(), Refusal> {
+    let mut pairs = batch.recipes.windows(2);
+    let mut recipes = batch.recipes.iter();
+    Refusal::CostOrder.when(pairs.any(|pair| pair[1].cost > pair[0].cost || pair[0].cost == 0))?;
+    Refusal::WorthSetAside.when(recipes.any(|recipe| recipe.cost == 0 && recipe.worth > 0))
+}
