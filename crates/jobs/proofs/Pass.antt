@@ -8,7 +8,7 @@ use lib.ListN.{length, getD, set, replicate}
 use Rattle.jobs.specs.declared.model.Version.{Version}
 use Rattle.jobs.specs.declared.model.Job.{Job}
 use Rattle.jobs.specs.declared.rule.Stretch.{Stretch}
-use Rattle.jobs.specs.Model.{maxJobs, noJob, versionOf, backward, placed}
+use Rattle.jobs.specs.Model.{maxJobs, noJob, versionOf, backward}
 use Rattle.jobs.specs.Rule.{stretchOf, fits, nextBound, failing, stretches}
 use Rattle.jobs.specs.Contract.{noStretch, stretchesOf, stretched}
 use Rattle.jobs.proofs.Places.{length-backward, length-placed, placed-beyond, backward-placed, replicate-at}

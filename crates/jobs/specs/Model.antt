@@ -1,4 +1,5 @@
--- Versions by number, and the two directions of a list: list order in the arrays, the last first in the theory.
+-- The limits; arrays by position, and the two directions of a list, list order in the arrays and the last first in the theory; the
+-- jobs and versions that an array of jobs and a choice name.
 use Prim.Native.Nat.{ℕ, zero, suc, _-_}
 use mathlib.Core.Bool.{false}
 use mathlib.Core.List.{List, [], _∷_, _++_}
