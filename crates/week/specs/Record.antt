@@ -47,7 +47,7 @@ batchOf w i = atPosition noBatch (w .batches) i
 abbrev pub recipeOf : Batch → ℕ → Recipe
 recipeOf b k = atPosition noRecipe (b .recipes) k
 
--- the minutes from t to c − 1
+-- how many minutes there are from t to c − 1
 abbrev pub spanOf : Week → ℕ
 spanOf w = w .closing - w .opening
 

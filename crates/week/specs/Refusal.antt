@@ -5,6 +5,7 @@ use mathlib.Core.List.{List, [], _∷_}
 use lib.Dec.{ltb, eqb}
 use Rattle.week.specs.declared.refusal.Refusal.{Refusal}
 
+-- nothing is refused
 abbrev pub accepted : Refusal
 accepted = record { number = 0; place = 0; recipe = 0 }
 
