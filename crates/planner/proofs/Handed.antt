@@ -29,10 +29,6 @@ module _ (w : Week) (choice : List ℕ) where
         let handed = firstOf-none _ _ (list .1) in
         (firstOf-proper _ (list .0), firstOf-proper _ (handed .0), handed .1)
 
-  pub passed-handed : handedFault w choice .number ≡ 0 → WellFormed w × WellChosen w choice
-  unfolding handedFault
-  passed-handed z = let both = none-handed [] z in (both .0, both .1)
-
   pub handed-passes : WellFormed w → WellChosen w choice → handedFault w choice .number ≡ 0
   unfolding handedFault choiceFault
   handed-passes list named = number-of (firstOf-last _ _ (number-of list) (firstOf-proper _) ∙ named)

@@ -1,4 +1,4 @@
--- "The desk's minutes stand as written": what the station is given to read of a week, by its records.
+-- Demand 2: "the desk's minutes stand as written". What the station is given to read of a week, by its records.
 use Prim.Native.Nat.{ℕ, zero, suc, _-_, _≤_, _<_}
 use native.Mathlib.Omega.{arith}
 use mathlib.Core.Path.{_≡_, refl, sym, ap, _∙_}

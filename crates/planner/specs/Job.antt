@@ -16,10 +16,12 @@ abbrev pub versionFrom : Batch → ℕ → Version
 versionFrom b k =
     record { read = not (eqb (recipeAt b k .cost) 0); cost = recipeAt b k .cost; worth = recipeAt b k .worth }
 
+-- a batch, the week opening at t: its ready minute, its due minute, and a version for each place of its recipes
 abbrev pub jobFrom : ℕ → Batch → Job
 jobFrom t b =
     record { ready = readyOf t b; due = b .due; count = b .count; versions = tabulate (versionFrom b) 0 maxRecipes }
 
+-- a job for each place of the list, those beyond n too: the core looks at the first n
 abbrev pub jobListOf : Week → JobList
 jobListOf w = record { count = w .count; jobs = tabulate (λ i. jobFrom (w .opening) (batchAt w i)) 0 maxBatches }
 

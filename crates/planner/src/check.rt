@@ -29,6 +29,7 @@ impl Checked {
     }
 }
 
+// Document 01: "Check: list and choice, answering the stretches and the total." The answer on every input.
 pub fn check(week: Week, choice: &[u8]) -> Checked
     ensures { λ r. ⌜ r ≡ checkAnswer week (now (choice .entry)) ⌝ }
 {
