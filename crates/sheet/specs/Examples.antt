@@ -17,8 +17,7 @@ use Rattle.sheet.specs.Hex.{isDigit, digitOf, byteAt, wordAt}
 use Rattle.sheet.specs.Frame.{isWeek, isBatch, frameOf}
 use Rattle.sheet.specs.Fault.{sizeFault, frameFault, lineFault, linesFault}
 use Rattle.sheet.specs.List.{batchFrom, weekFrom}
-use Rattle.sheet.specs.Read.{readFault, refusedReading}
-use Rattle.sheet.specs.Read.{readAnswer}
+use Rattle.sheet.specs.Read.{readFault, refusedReading, readAnswer}
 
 -- the bytes of a text
 abbrev bytes : String → List ℕ

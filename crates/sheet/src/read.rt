@@ -27,6 +27,7 @@ impl Reading {
     }
 }
 
+// Document 01: "Read a sheet, answering a list that passed 1 to 10." The answer on every sequence of bytes.
 pub fn read(sheet: &[u8]) -> Reading
     ensures { λ r. ⌜ r ≡ readAnswer (now (sheet .entry)) ⌝ }
 {
