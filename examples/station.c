@@ -1,7 +1,7 @@
 /*
  * station SHEET: chooses the recipes of the week that the file SHEET holds, and prints the total and
- * the recipe of the batch at each position, or the refusal in words. The exit status is 0 for a plan, 1 for a refusal, 2
- * for a usage or file error.
+ * the recipe of the batch at each position, or the refusal in words. The exit status is 0 for a plan,
+ * 1 for a refusal, 2 for a usage or file error.
  */
 #include <stdio.h>
 
