@@ -1,6 +1,7 @@
 -- Choose's answer: which refusal comes first, what is answered then, and what the table holds.
-use Prim.Native.Nat.{ℕ, _*_, _≤_}
+use Prim.Native.Nat.{ℕ, _+_, _*_, _≤_}
 use native.Mathlib.Decide.{ℕ-discrete}
+use native.Mathlib.Nat.{mul-le-mul}
 use native.Mathlib.Omega.{arith}
 use mathlib.Core.Path.{_≡_, refl, sym, ap, _∙_}
 use mathlib.Core.Logic.{_↔_, inl, inr, ⊎-elim}
@@ -17,14 +18,16 @@ use Rattle.select.specs.Table.{filled}
 use Rattle.select.proofs.Picks.{length-filled}
 use Rattle.week.specs.declared.record.Week.{Week}
 use Rattle.week.specs.declared.refusal.Refusal.{Refusal}
+use Rattle.week.specs.Record.{maxMinutes}
 use Rattle.week.specs.Refusal.{firstOf, shortFault}
 use Rattle.week.specs.Fault.{listFault, WellFormed}
 use Rattle.week.proofs.First.{number-of, refuses-too, or-first, or-second, firstOf-here, firstOf-last, firstOf-none, firstOf-proper}
 use Rattle.week.proofs.First.{long-passes, short-proper, unless-passed, unless-refused}
+use Rattle.week.proofs.Sound.{sound}
 use Rattle.week.proofs.Numbers.{Numbered, or-numbered, refusedIf-numbered, list-numbered}
 use Rattle.planner.specs.declared.choose.Plan.{Plan}
 use Rattle.planner.specs.Job.{jobListOf, weekJobs}
-use Rattle.planner.specs.Choose.{widthOf, tableFault, planFault, chooseFault, fillFault, refusedPlan, planOf, chooseAnswer}
+use Rattle.planner.specs.Choose.{widthOf, maxPicks, tableFault, planFault, chooseFault, fillFault, refusedPlan, planOf, chooseAnswer}
 use Rattle.planner.specs.Choose.{weekBest, tableAfter, Fills, LongEnough}
 
 -- a plan's refusal is that of the best choice
@@ -49,6 +52,13 @@ module _ (w : Week) (size : ℕ) where
   pub long-enough : LongEnough w size ↔ (w .count * widthOf w ≤ size)
   unfolding tableFault
   long-enough = long-passes 10 (w .count * widthOf w) size
+
+  -- a table of 16 × 2,401 bytes is, for every list
+  pub picks-enough : WellFormed w → maxPicks ≤ size → LongEnough w size
+  picks-enough list enough =
+      let fine = sound w (number-of list) in
+      let width : widthOf w ≤ maxMinutes + 1 = omega (arith, fine .short) in
+      long-enough .1 (omega (arith, mul-le-mul (fine .most) width))
 
   pub faultless : (fillFault w size .number ≡ 0) ↔ (WellFormed w × LongEnough w size)
   unfolding fillFault listFault tableFault

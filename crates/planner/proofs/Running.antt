@@ -1,5 +1,6 @@
 -- Run's answer: which refusal comes first, what is answered then, and what the log holds.
 use Prim.Native.Nat.{ℕ, _≤_}
+use native.Mathlib.Omega.{arith}
 use mathlib.Core.Path.{_≡_, refl, sym, ap, _∙_}
 use mathlib.Core.Logic.{_↔_}
 use mathlib.Core.List.{List, [], _∷_, _++_}
@@ -7,10 +8,11 @@ use lib.ListN.{length, drop}
 use Rattle.edf.specs.Workload.{workloadOf}
 use Rattle.week.specs.declared.record.Week.{Week}
 use Rattle.week.specs.declared.refusal.Refusal.{Refusal}
-use Rattle.week.specs.Record.{spanOf}
+use Rattle.week.specs.Record.{maxMinutes, spanOf}
 use Rattle.week.specs.Fault.{handedFault, WellFormed, WellChosen}
 use Rattle.week.proofs.First.{number-of, refuses-too, firstOf-one, firstOf-none, firstOf-proper}
 use Rattle.week.proofs.First.{long-passes, short-proper, unless-passed, unless-refused, unless-names}
+use Rattle.week.proofs.Sound.{sound}
 use Rattle.planner.specs.declared.run.WeekRun.{WeekRun}
 use Rattle.planner.specs.Job.{jobListOf}
 use Rattle.planner.specs.Run.{logFault, runFault, weekLog, logAnswer, refusedRun, runAnswer, logAfter, LongLog}
@@ -19,6 +21,10 @@ use Rattle.planner.proofs.Handed.{first-handed, first-after, none-hande
 pub long-log : (w : Week) (size : ℕ) → LongLog w size ↔ (spanOf w ≤ size)
 unfolding logFault
 long-log w size = long-passes 11 (spanOf w) size
+
+-- a log of 2,400 bytes is long enough for every list
+pub log-enough : (w : Week) (size : ℕ) → WellFormed w → maxMinutes ≤ size → LongLog w size
+log-enough w size list enough = long-log w size .1 (omega (arith, sound w (number-of list) .short))
 
 module _ (w : Week) (choice : List ℕ) (size : ℕ) where
   pub run-handed : (handedFault w choice .number ≡ 0 → ⊥) → runFault w choice size ≡ handedFault w choice

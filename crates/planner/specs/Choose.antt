@@ -15,7 +15,7 @@ use Rattle.select.specs.Table.{filled, entryAt}
 use Rattle.week.specs.declared.record.Week.{Week}
 use Rattle.week.specs.declared.refusal.Refusal.{Refusal}
 use Rattle.planner.specs.declared.choose.Plan.{Plan}
-use Rattle.week.specs.Record.{maxBatches, spanOf}
+use Rattle.week.specs.Record.{maxBatches, maxMinutes, spanOf}
 use Rattle.week.specs.Refusal.{accepted, refused, orElse, firstOf, shortFault, unlessRefused}
 use Rattle.week.specs.Fault.{listFault}
 use Rattle.planner.specs.Job.{jobListOf, weekJobs}
@@ -24,6 +24,10 @@ use Rattle.planner.specs.Check.{weekChoice}
 -- the minutes from t to c, both included: a row of the picks table has an entry for each
 abbrev pub widthOf : Week → ℕ
 widthOf w = spanOf w + 1
+
+-- a table that is long enough for every list has 16 rows of 2,401 entries
+abbrev pub maxPicks : ℕ
+maxPicks = maxBatches * (maxMinutes + 1)
 
 -- "11: picks table shorter than n × (c − t + 1), n being the batches."
 unfoldable pub tableFault : Week → ℕ → Refusal

@@ -14,6 +14,9 @@ ghost use Rattle.week.specs.Fault.{WellFormed};
 ghost use Rattle.planner.specs.Choose.{widthOf, tableFault, fillFault, chooseAnswer, tableAfter, refusedPlan};
 ghost use Rattle.planner.specs.Choose.{Fills, PicksTable, BestPlan, NoPlan, LongEnough};
 
+// A table that is long enough for every list: a row for each batch, with an entry for each closing minute, both ends counted.
+pub const MAX_PICKS: usize = Week::MAX_BATCHES * (Week::MAX_MINUTES as usize + 1);
+
 // Choose's answer: for each batch, in list order, its recipe, and the total; or the refusal.
 pub struct Plan {
     pub refusal: Refusal,

@@ -1,7 +1,6 @@
 -- Case W and sheets at the corners of document 01's "The sheet", computed from the definitions: one table, one claim.
 use Prim.Native.Nat.{ℕ}
-use Prim.Native.Char.{code}
-use Prim.Native.String.{String, [] as end, _∷_ as _then_}
+use Prim.Native.String.{String}
 use mathlib.Core.Path.{_≡_, refl}
 use mathlib.Core.Bool.{true}
 use mathlib.Core.List.{List, [], _∷_, map, flatten}
@@ -13,16 +12,12 @@ use Rattle.week.specs.Example.{Example, _is_, same, agree}
 use Rattle.week.specs.Refusal.{refusedIf, orElse, firstOf, first, unlessRefused}
 use Rattle.week.specs.Fault.{weekFault, costFault, worthFault, repeatFault, orderFault, batchFault, listFault}
 use Rattle.sheet.specs.declared.read.Reading.{Reading}
+use Rattle.sheet.specs.Text.{bytes}
 use Rattle.sheet.specs.Hex.{isDigit, digitOf, byteAt, wordAt}
 use Rattle.sheet.specs.Frame.{isWeek, isBatch, frameOf}
 use Rattle.sheet.specs.Fault.{sizeFault, frameFault, lineFault, linesFault}
 use Rattle.sheet.specs.List.{batchFrom, weekFrom}
 use Rattle.sheet.specs.Read.{readFault, refusedReading, readAnswer}
-
--- the bytes of a text
-abbrev bytes : String → List ℕ
-bytes end = []
-bytes (c then s) = code c ∷ bytes s
 
 abbrev recipeNumbers : Recipe → List ℕ
 recipeNumbers r = r .cost ∷ r .worth ∷ []

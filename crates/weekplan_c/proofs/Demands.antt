@@ -1,9 +1,8 @@
 -- What the buyer demands of the control program's call, each demand's sentence above its theorem. The contract of `weekplan_choose`
 -- says that it answers `callAnswer` and leaves `picksAfter` and `recipesAfter` on every input; the theorems here say that these are
 -- what the buyer asks for.
-use Prim.Native.Nat.{ℕ, _+_, _*_, _≤_}
+use Prim.Native.Nat.{ℕ, _≤_}
 use native.Mathlib.Decide.{ℕ-discrete}
-use native.Mathlib.Nat.{mul-le-mul}
 use native.Mathlib.Omega.{arith}
 use mathlib.Core.Path.{_≡_, refl, sym, ap, _∙_}
 use mathlib.Core.Logic.{_↔_, _⊎_, inl, inr, ⊎-elim}
@@ -16,12 +15,12 @@ use borrow.Author.Tests.{le-leb}
 use Rattle.jobs.proofs.Front.{length-kept, later-kept}
 use Rattle.jobs.proofs.Places.{backward-take}
 use Rattle.week.specs.declared.record.Week.{Week}
-use Rattle.week.specs.Record.{maxBatches, maxMinutes}
+use Rattle.week.specs.Record.{maxBatches}
 use Rattle.week.proofs.First.{number-of, long-passes}
 use Rattle.week.proofs.Sound.{sound}
-use Rattle.planner.specs.Choose.{widthOf, planChoice, chooseAnswer, PicksTable, NoPlan, LongEnough}
+use Rattle.planner.specs.Choose.{maxPicks, planChoice, chooseAnswer, PicksTable, NoPlan, LongEnough}
 use Rattle.planner.specs.Run.{runAnswer, LongLog}
-use Rattle.planner.proofs.Choosing.{long-enough, fills-faultless}
+use Rattle.planner.proofs.Choosing.{picks-enough, fills-faultless}
 use Rattle.planner.proofs.Demands.{choose-fills, choose-best, choose-none, choose-names, choose-runs, choose-in-time}
 use Rattle.sheet.specs.List.{sheetWeek}
 use Rattle.sheet.specs.Read.{WellWritten}
@@ -176,12 +175,10 @@ module _ (sheet : List ℕ) (table buffer : ℕ) where
   )
 
   -- include/weekplan.h: 16 × 2,401 bytes of table and 16 of buffer are enough for every list.
-  pub call-enough : WellWritten sheet → maxBatches * (maxMinutes + 1) ≤ table → maxBatches ≤ buffer →
+  pub call-enough : WellWritten sheet → maxPicks ≤ table → maxBatches ≤ buffer →
       LongEnough (sheetWeek sheet) table × LongBuffer (sheetWeek sheet) buffer
   unfolding bufferFault
-  call-enough written table′ buffer′ =
-      let fine = sound (sheetWeek sheet) (number-of (written .list)) in
-      let width : widthOf (sheetWeek sheet) ≤ maxMinutes + 1 = omega (arith, fine .short) in (
-        long-enough (sheetWeek sheet) table .1 (omega (arith, mul-le-mul (fine .most) width)),
-        long-passes 18 (sheetWeek sheet .count) buffer .1 (omega (arith, fine .most)),
-      )
+  call-enough written picks recipes = (
+    picks-enough (sheetWeek sheet) table (written .list) picks,
+    long-passes 18 (sheetWeek sheet .count) buffer .1 (omega (arith, sound (sheetWeek sheet) (number-of (written .list)) .most)),
+  )
