@@ -1,5 +1,5 @@
 -- What is known of a list, and of a choice, that is not refused.
-use Prim.Native.Nat.{ℕ, suc, _-_, _<_, _≤_}
+use Prim.Native.Nat.{ℕ, suc, _<_, _≤_}
 use native.Mathlib.Omega.{arith}
 use mathlib.Core.Path.{_≡_, refl, ap, ap₂, _∙_}
 use mathlib.Core.Bool.{Bool, true, false, _||_, not, true≢false}
@@ -8,7 +8,7 @@ use lib.ListN.{length, getD}
 use lib.Dec.{ltb, eqb}
 use borrow.Author.Tests.{eqb-true, eqb-false, eq-eqb, ne-eqb, ltb-false, le-ltb, leb-false, not-false}
 use Rattle.week.specs.declared.record.Week.{Week}
-use Rattle.week.specs.Record.{maxMinutes, maxBatches, maxRecipes, batchAt}
+use Rattle.week.specs.Record.{maxMinutes, maxBatches, maxRecipes, batchAt, spanOf}
 use Rattle.week.specs.Refusal.{accepted}
 use Rattle.week.specs.Fault.{weekFault, countFault, batchFault, listFault, nameFault, choiceFault}
 use Rattle.week.proofs.First.{number-of, refusedIf-none, refusedIf-false, firstOf-none, firstOf-last}
@@ -25,7 +25,7 @@ from-one n m false b e f h = (let z = eqb-false n 0 e in omega arith, ltb-false 
 
 -- 1 to 3 pass
 pub week-limits : (w : Week) → weekFault w .number ≡ 0 →
-    (w .opening < w .closing) × (w .closing - w .opening ≤ maxMinutes) × (w .count ≤ maxBatches)
+    (w .opening < w .closing) × (spanOf w ≤ maxMinutes) × (w .count ≤ maxBatches)
 unfolding weekFault
 week-limits w h =
     let one = firstOf-none _ _ h in
@@ -57,7 +57,7 @@ names w choice h i l =
 
 pub record Sound (w : Week) : Type 0 where
   pub opens : w .opening < w .closing
-  pub short : w .closing - w .opening ≤ maxMinutes
+  pub short : spanOf w ≤ maxMinutes
   pub most : w .count ≤ maxBatches
   pub some : (i : ℕ) → i < w .count → 1 ≤ batchAt w i .count
   pub few : (i : ℕ) → i < w .count → batchAt w i .count ≤ maxRecipes
