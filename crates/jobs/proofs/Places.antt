@@ -34,10 +34,15 @@ module _ {A : Type 0} where
   pub length-placed : (m : ℕ) (d : A) (xs : List A) → length xs ≤ m → length (placed m d xs) ≡ m
   length-placed m d xs h = length-padded m d (forward xs) (omega (arith, length-forward xs))
 
+  -- what holds of d, and past the end, holds at each index of an array that is d throughout
+  module _ (P : A → Type 0) (d e : A) (fill : P d) (past : P e) where
+    pub replicate-each : (n i : ℕ) → P (getD (replicate n d) i e)
+    replicate-each zero i = past
+    replicate-each (suc n) zero = fill
+    replicate-each (suc n) (suc i) = replicate-each n i
+
   pub replicate-at : (n : ℕ) (d : A) (i : ℕ) → getD (replicate n d) i d ≡ d
-  replicate-at zero d i = refl
-  replicate-at (suc n) d zero = refl
-  replicate-at (suc n) d (suc i) = replicate-at n d i
+  replicate-at n d i = replicate-each (λ (a : A). a ≡ d) d d refl refl n i
 
   pub drop-replicate : (n m : ℕ) (d : A) → n ≤ m → drop n (replicate m d) ≡ replicate (m - n) d
   drop-replicate n m d h =
@@ -115,13 +120,8 @@ module _ {A : Type 0} where
 
   -- what holds of each entry that a padded array is made of, and past its end, holds at each index
   module _ (P : A → Type 0) (d e : A) (fill : P d) (past : P e) where
-    replicate-each : (n i : ℕ) → P (getD (replicate n d) i e)
-    replicate-each zero i = past
-    replicate-each (suc n) zero = fill
-    replicate-each (suc n) (suc i) = replicate-each n i
-
     append-each : (f : ℕ → A) → ((i : ℕ) → P (f i)) → (a n m i : ℕ) → P (getD (tabulate f a n ++ replicate m d) i e)
-    append-each f each a zero m i = replicate-each m i
+    append-each f each a zero m i = replicate-each P d e fill past m i
     append-each f each a (suc n) m zero = each a
     append-each f each a (suc n) m (suc i) = append-each f each (suc a) n m i
 

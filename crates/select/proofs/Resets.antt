@@ -5,7 +5,7 @@ use mathlib.Core.Path.{_≡_, refl, ap, _∙_}
 use mathlib.Core.List.{List, _∷_}
 use lib.ListN.{length, getD, replicate}
 use Rattle.jobs.specs.Model.{tabulate}
-use Rattle.jobs.proofs.Places.{length-tabulate}
+use Rattle.jobs.proofs.Places.{length-tabulate, replicate-each}
 use Rattle.jobs.proofs.Fills.{Tabulated, tabulated-end}
 
 tabulate-same : (a from n : ℕ) → tabulate (λ i. a) from n ≡ replicate n a
@@ -22,6 +22,4 @@ module _ {a n m : ℕ} {row : List ℕ} (h : Tabulated (λ i. a) n 0 m row) wher
 
 -- none of its entries is greater
 pub replicate-low : (n a m : ℕ) → getD (replicate n a) m 0 ≤ a
-replicate-low zero a m = omega arith
-replicate-low (suc n) a zero = omega arith
-replicate-low (suc n) a (suc m) = replicate-low n a m
+replicate-low n a m = replicate-each (λ (x : ℕ). x ≤ a) a 0 (omega arith) (omega arith) n m
