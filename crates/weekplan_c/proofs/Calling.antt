@@ -35,9 +35,9 @@ use Rattle.weekplan_c.specs.Call.{Planned, Fills, LongBuffer}
 use Rattle.weekplan_c.proofs.Signed.{minus-injective, not-minus}
 
 -- the sizes pass
-lentless : (w : Week) (table buffer : ℕ) → (lentFault w table buffer .number ≡ 0) ↔ (LongEnough w table × LongBuffer w buffer)
+lent-faultless : (w : Week) (table buffer : ℕ) → (lentFault w table buffer .number ≡ 0) ↔ (LongEnough w table × LongBuffer w buffer)
 unfolding lentFault tableFault bufferFault
-lentless w table buffer = (
+lent-faultless w table buffer = (
   λ z.
       let one = firstOf-none _ _ z in
       (short-proper 10 _ _ (one .0), short-proper 18 _ _ (firstOf-none _ _ (one .1) .0)),
@@ -58,20 +58,20 @@ module _ (sheet : List ℕ) (table buffer : ℕ) where
   unfolding keepFault
   keep-sizes z = or-second (readFault sheet) _ z
 
-  pub keepless : (keepFault sheet table buffer .number ≡ 0) ↔ (WellWritten sheet × LongEnough w table × LongBuffer w buffer)
-  keepless = (
+  pub keep-faultless : (keepFault sheet table buffer .number ≡ 0) ↔ (WellWritten sheet × LongEnough w table × LongBuffer w buffer)
+  keep-faultless = (
     λ z.
         elim (ℕ-discrete (readFault sheet .number) 0) [
           | yes read ↦
-              let sizes = lentless w table buffer .0 (number-of (sym (keep-sizes read)) ∙ z) in
+              let sizes = lent-faultless w table buffer .0 (number-of (sym (keep-sizes read)) ∙ z) in
               (written.faultless sheet .0 read, sizes .0, sizes .1)
           | no n ↦ absurd (refuses-too (sym (keep-sheet n)) n z)
         ],
-    λ h. number-of (keep-sizes (written.faultless sheet .1 (h .0))) ∙ lentless w table buffer .1 (h .1, h .2),
+    λ h. number-of (keep-sizes (written.faultless sheet .1 (h .0))) ∙ lent-faultless w table buffer .1 (h .1, h .2),
   )
 
-  pub fillless : keepFault sheet table buffer .number ≡ 0 → fillFault w table .number ≡ 0
-  fillless z = let passed = keepless .0 z in choosing.faultless w table .1 (passed .0 .list, passed .1)
+  pub fill-faultless : keepFault sheet table buffer .number ≡ 0 → fillFault w table .number ≡ 0
+  fill-faultless z = let passed = keep-faultless .0 z in choosing.faultless w table .1 (passed .0 .list, passed .1)
 
   -- a test that its numbers pass
   pub keep-numbered : (ok : ℕ → Bool) → ok 0 ≡ true → ((n : ℕ) → n ≤ 10 → ok n ≡ true) → ok 11 ≡ true → ok 16 ≡ true →
@@ -91,7 +91,7 @@ module _ (sheet : List ℕ) (table buffer : ℕ) where
   call-plan z =
       or-second (keepFault sheet table buffer) _ z
       ∙ sym (plan-refusal w (weekBest w))
-      ∙ ap (λ (p : Plan). p .refusal) (sym (plan-passed w table (fillless z) refl))
+      ∙ ap (λ (p : Plan). p .refusal) (sym (plan-passed w table (fill-faultless z) refl))
 
   -- nothing refuses: not before anything is written, and there is a plan
   pub call-passed : callFault sheet table buffer .number ≡ 0 →
@@ -127,7 +127,7 @@ module _ (sheet : List ℕ) (table buffer : ℕ) where
   pub answer-small : callFault sheet table buffer .number ≡ 0 → chooseAnswer w table .total ≤ maxBatches * 65535
   answer-small z =
       let passed = call-passed z in
-      let fine = sound w (number-of (keepless .0 (passed .0) .0 .list)) in
+      let fine = sound w (number-of (keep-faultless .0 (passed .0) .0 .list)) in
       let names = handed-names w fine (choose-names w table (passed .1)) in
       let same = backward-take 0 (chooseAnswer w table .choice) (w .count) (w .count) (omega arith) in
       rw (choose-best w table (passed .1) .summed)
@@ -154,13 +154,13 @@ module _ (sheet : List ℕ) (table buffer : ℕ) where
   )
 
   -- a total or minus 14 is the answer exactly where nothing refuses before anything is written
-  pub fills-keepless : Fills (callAnswer sheet table buffer) ↔ (keepFault sheet table buffer .number ≡ 0)
-  fills-keepless = (
+  pub fills-keep-faultless : Fills (callAnswer sheet table buffer) ↔ (keepFault sheet table buffer .number ≡ 0)
+  fills-keep-faultless = (
     λ fills. ⊎-elim (λ p. call-passed (planned-passes .0 p) .0) (λ e. fourteen-plan (answer-fourteen .0 e) .0) fills,
     λ z.
         let same = number-of (call-plan z) in
         ⊎-elim (λ e. inl (planned-passes .1 (same ∙ e))) (λ e. inr (answer-fourteen .1 (same ∙ e)))
-        (fills-faultless w table .1 (fillless z)),
+        (fills-faultless w table .1 (fill-faultless z)),
   )
 
 -- the table and the buffer

@@ -26,9 +26,9 @@ use Rattle.sheet.specs.List.{sheetWeek}
 use Rattle.sheet.specs.Read.{WellWritten}
 use Rattle.weekplan_c.specs.Call.{bufferFault, keepFault, callFault, minusOf, callAnswer, picksAfter, recipesAfter}
 use Rattle.weekplan_c.specs.Call.{Planned, Fills, callNumber, bufferChoice, BestCall, LongBuffer}
-use Rattle.weekplan_c.proofs.Calling.{keepless, fillless, keep-numbered, call-keep, call-plan, call-passed, fourteen-plan}
+use Rattle.weekplan_c.proofs.Calling.{keep-faultless, fill-faultless, keep-numbered, call-keep, call-plan, call-passed}
 use Rattle.weekplan_c.proofs.Calling.{answer-refused, answer-passed, answer-small, planned-passes, answer-fourteen}
-use Rattle.weekplan_c.proofs.Calling.{fills-keepless, picks-filled, picks-kept, recipes-written, recipes-kept}
+use Rattle.weekplan_c.proofs.Calling.{fourteen-plan, fills-keep-faultless, picks-filled, picks-kept, recipes-written, recipes-kept}
 
 module _ (sheet : List ℕ) (table buffer : ℕ) where
   -- Demand 1: "Any list, in order or damaged, gets a plan or one numbered refusal ..": 01 gives the call the number alone, "minus
@@ -43,7 +43,8 @@ module _ (sheet : List ℕ) (table buffer : ℕ) where
       elim (ℕ-discrete (keepFault sheet table buffer .number) 0) [
         | yes z ↦
             ap callNumber (number-of (call-plan sheet table buffer z))
-            ∙ ⊎-elim (ap callNumber) (ap callNumber) (fills-faultless (sheetWeek sheet) table .1 (fillless sheet table buffer z))
+            ∙ ⊎-elim (ap callNumber) (ap callNumber)
+            (fills-faultless (sheetWeek sheet) table .1 (fill-faultless sheet table buffer z))
         | no n ↦
             ap callNumber (number-of (call-keep sheet table buffer n))
             ∙ keep-numbered sheet table buffer callNumber refl ten refl refl refl refl refl
@@ -71,14 +72,14 @@ module _ (sheet picks recipes : List ℕ) where
   call-keeps-recipes n = recipes-kept sheet picks recipes (λ z. n (planned-passes sheet (length picks) (length recipes) .1 z))
 
   pub call-keeps-picks : (Fills answer → ⊥) → picksAfter sheet picks (length recipes) ≡ picks
-  call-keeps-picks n = picks-kept sheet picks recipes (λ z. n (fills-keepless sheet (length picks) (length recipes) .1 z))
+  call-keeps-picks n = picks-kept sheet picks recipes (λ z. n (fills-keep-faultless sheet (length picks) (length recipes) .1 z))
 
   -- That table, where the call answers a total or minus 14: each of its bytes is what 01 says of it.
   pub call-fills : Fills answer → PicksTable w picks (picksAfter sheet picks (length recipes))
   call-fills fills =
-      let none = fills-keepless sheet (length picks) (length recipes) .0 fills in
+      let none = fills-keep-faultless sheet (length picks) (length recipes) .0 fills in
       rw (picks-filled sheet picks recipes none)
-      (choose-fills w picks (fills-faultless w (length picks) .1 (fillless sheet (length picks) (length recipes) none)))
+      (choose-fills w picks (fills-faultless w (length picks) .1 (fill-faultless sheet (length picks) (length recipes) none)))
 
   -- A plan.
   module _ (planned : Planned answer) where
@@ -97,7 +98,8 @@ module _ (sheet picks recipes : List ℕ) where
     long : w .count ≤ length recipes
     unfolding bufferFault
     long =
-        let passed = keepless sheet (length picks) (length recipes) .0 (call-passed sheet (length picks) (length recipes) none .0) in
+        let kept = call-passed sheet (length picks) (length recipes) none .0 in
+        let passed = keep-faultless sheet (length picks) (length recipes) .0 kept in
         long-passes 18 (w .count) (length recipes) .0 (passed .2)
 
     -- 01: totals are "answered in 32" bits; the greatest is 16 × 65,535.
@@ -146,10 +148,10 @@ module _ (sheet : List ℕ) (table buffer : ℕ) where
   call-none = (
     λ e.
         let no = fourteen-plan sheet table buffer (answer-fourteen sheet table buffer .0 e) in
-        let passed = keepless sheet table buffer .0 (no .0) in
+        let passed = keep-faultless sheet table buffer .0 (no .0) in
         (passed .0, passed .1, passed .2, choose-none (sheetWeek sheet) table .0 (no .1) .2),
     λ h.
-        let passed = keepless sheet table buffer .1 (h .0, h .1, h .2) in
+        let passed = keep-faultless sheet table buffer .1 (h .0, h .1, h .2) in
         let fourteen = choose-none (sheetWeek sheet) table .1 (h .0 .list, h .1, h .3) in
         answer-fourteen sheet table buffer .1 (number-of (call-plan sheet table buffer passed) ∙ fourteen),
   )
@@ -163,15 +165,15 @@ module _ (sheet : List ℕ) (table buffer : ℕ) where
   call-plans = (
     λ planned.
         let none = call-passed sheet table buffer (planned-passes sheet table buffer .0 planned) in
-        let passed = keepless sheet table buffer .0 (none .0) in (
+        let passed = keep-faultless sheet table buffer .0 (none .0) in (
           passed .0,
           passed .1,
           passed .2,
           λ no. omega (arith, none .1, choose-none (sheetWeek sheet) table .1 (passed .0 .list, passed .1, no)),
         ),
     λ h.
-        let passed = keepless sheet table buffer .1 (h .0, h .1, h .2) in
-        ⊎-elim (λ p. p) (λ e. absurd (h .3 (call-none .0 e .3))) (fills-keepless sheet table buffer .1 passed),
+        let passed = keep-faultless sheet table buffer .1 (h .0, h .1, h .2) in
+        ⊎-elim (λ p. p) (λ e. absurd (h .3 (call-none .0 e .3))) (fills-keep-faultless sheet table buffer .1 passed),
   )
 
   -- include/weekplan.h: 16 × 2,401 bytes of table and 16 of buffer are enough for every list.

@@ -21,8 +21,8 @@ use Rattle.sheet.specs.Read.{readFault, WellWritten}
 use Rattle.sheet.proofs.Demands.{read-passes, read-names}
 use Rattle.weekplan_c.specs.Call.{bufferFault, keepFault, callFault, minusOf, callAnswer, picksAfter, recipesAfter}
 use Rattle.weekplan_c.specs.Call.{Planned, BestCall, LongBuffer}
-use Rattle.weekplan_c.proofs.Calling.{keep-sheet, keep-sizes, keepless, call-keep, call-plan, answer-refused, answer-passed}
-use Rattle.weekplan_c.proofs.Calling.{answer-small, picks-filled, picks-kept, recipes-written, recipes-kept}
+use Rattle.weekplan_c.proofs.Calling.{keep-sheet, keep-sizes, keep-faultless, call-keep, call-plan, answer-refused}
+use Rattle.weekplan_c.proofs.Calling.{answer-passed, answer-small, picks-filled, picks-kept, recipes-written, recipes-kept}
 use Rattle.weekplan_c.proofs.Demands.{call-best, call-none}
 use Rattle.weekplan_c.proofs.Signed.{as-positive}
 use Rattle.weekplan_c.proofs.weekplan_choose.Statement.{statement}
@@ -143,7 +143,7 @@ rooms : (c : tie.After-choose) →
 unfolding bufferFault
 rooms c =
     let read = reading (judged (c .before .before)) in
-    let passed = keepless (sheetOf read) (length (picksOf read)) (length (recipesOf read)) .0 (keep-of (c .before .before)) in
+    let passed = keep-faultless (sheetOf read) (length (picksOf read)) (length (recipesOf read)) .0 (keep-of (c .before .before)) in
     let batches = ap (λ (w : Week). w .count) (week-of (judged (c .before .before))) in (
       omega (arith, batches, sound _ (number-of (passed .0 .list)) .most),
       omega (arith, batches, long-passes 18 (sheetWeek (sheetOf read) .count) (length (recipesOf read)) .0 (passed .2)),
