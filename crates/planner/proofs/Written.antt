@@ -2,7 +2,7 @@
 use Prim.Native.Nat.{ℕ, zero, suc, _-_, _≤_, _<_}
 use native.Mathlib.Omega.{arith}
 use mathlib.Core.Path.{_≡_, refl, sym, ap, _∙_}
-use mathlib.Core.Bool.{Bool, true, false, cond, not}
+use mathlib.Core.Bool.{Bool, true, false, cond, not, Bool·not-not}
 use mathlib.Core.List.{List}
 use lib.ListN.{getD}
 use lib.Dec.{eqb}
@@ -27,10 +27,6 @@ read-cost cost = by-zero (eqb cost 0) refl
     by-zero : (q : Bool) → eqb cost 0 ≡ q → cond (not q) cost 0 ≡ cost
     by-zero true e = sym (eqb-true cost 0 e)
     by-zero false e = refl
-
-not-not : (q : Bool) → not (not q) ≡ q
-not-not true = refl
-not-not false = refl
 
 module _ (w : Week) (sound : Sound w) where
   pub ready-written : (i : ℕ) → 1 ≤ i → i ≤ w .count → readyAt (jobListOf w) i ≡ readyOf (w .opening) (batchOf w i)
@@ -63,5 +59,5 @@ module _ (w : Week) (sound : Sound w) where
         asideAt (jobListOf w) choice i ≡ eqb (chosenRecipe w choice i .cost) 0
     aside-written i low high =
         ap (λ (v : Version). not (v .read)) (version-written i low high)
-        ∙ not-not _
+        ∙ Bool·not-not _
         ∙ ap (λ (cost : ℕ). eqb cost 0) (cost-written i low high)
