@@ -14,8 +14,8 @@ use Rattle.week.specs.declared.record.Week.{Week}
 use Rattle.week.specs.declared.refusal.Refusal.{Refusal}
 use Rattle.week.specs.Refusal.{accepted, refused}
 use Rattle.week.specs.Fault.{handedFault}
-use Rattle.week.proofs.First.{number-of, refuses-too, firstOf-one, firstOf-proper}
-use Rattle.week.proofs.First.{refusedIf-true, refusedIf-false, refusedIf-proper, unless-passed, unless-refused, unless-names}
+use Rattle.week.proofs.First.{number-of, firstOf-one, firstOf-proper}
+use Rattle.week.proofs.First.{refusedIf-true, refusedIf-false, refusedIf-proper, unless-passed, unless-refused-by, unless-names}
 use Rattle.planner.specs.declared.check.Checked.{Checked}
 use Rattle.planner.specs.Job.{weekJobs}
 use Rattle.planner.specs.Check.{weekChoice, ruleFault, checkFault, passed, refusedCheck, checkAnswer}
@@ -27,7 +27,7 @@ module _ (w : Week) (choice : List ℕ) where
 
   pub answer-refused : {r : Refusal} → checkFault w choice ≡ r → (r .number ≡ 0 → ⊥) → checkAnswer w choice ≡ refusedCheck r
   unfolding checkAnswer
-  answer-refused e n = unless-refused _ _ _ (refuses-too (sym e) n) ∙ ap refusedCheck e
+  answer-refused e n = unless-refused-by refusedCheck _ e n
 
   pub answer-passed : checkFault w choice .number ≡ 0 → checkAnswer w choice ≡ passed w choice
   unfolding checkAnswer

@@ -22,7 +22,7 @@ use Rattle.week.specs.Record.{maxMinutes}
 use Rattle.week.specs.Refusal.{firstOf, shortFault}
 use Rattle.week.specs.Fault.{listFault, WellFormed}
 use Rattle.week.proofs.First.{number-of, refuses-too, or-first, or-second, firstOf-here, firstOf-last, firstOf-none, firstOf-proper}
-use Rattle.week.proofs.First.{long-passes, short-proper, unless-passed, unless-refused}
+use Rattle.week.proofs.First.{long-passes, short-proper, unless-passed, unless-refused, unless-refused-by}
 use Rattle.week.proofs.Sound.{sound}
 use Rattle.week.proofs.Numbers.{Numbered, or-numbered, refusedIf-numbered, list-numbered}
 use Rattle.planner.specs.declared.choose.Plan.{Plan}
@@ -87,7 +87,7 @@ module _ (w : Week) (size : ℕ) where
   -- the answer
   pub plan-refused : {r : Refusal} → fillFault w size ≡ r → (r .number ≡ 0 → ⊥) → chooseAnswer w size ≡ refusedPlan r
   unfolding chooseAnswer
-  plan-refused e n = unless-refused _ _ _ (refuses-too (sym e) n) ∙ ap refusedPlan e
+  plan-refused e n = unless-refused-by refusedPlan _ e n
 
   pub plan-passed : fillFault w size .number ≡ 0 → {o : Option (List ℕ)} → weekBest w ≡ o → chooseAnswer w size ≡ planOf w o
   unfolding chooseAnswer

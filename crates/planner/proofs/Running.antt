@@ -1,7 +1,7 @@
 -- Run's answer: which refusal comes first, what is answered then, and what the log holds.
 use Prim.Native.Nat.{ℕ, _≤_}
 use native.Mathlib.Omega.{arith}
-use mathlib.Core.Path.{_≡_, refl, sym, ap, _∙_}
+use mathlib.Core.Path.{_≡_, refl, sym, _∙_}
 use mathlib.Core.Logic.{_↔_}
 use mathlib.Core.List.{List, [], _∷_, _++_}
 use lib.ListN.{length, drop}
@@ -11,7 +11,7 @@ use Rattle.week.specs.declared.refusal.Refusal.{Refusal}
 use Rattle.week.specs.Record.{maxMinutes, spanOf}
 use Rattle.week.specs.Fault.{handedFault, WellFormed, WellChosen}
 use Rattle.week.proofs.First.{number-of, refuses-too, firstOf-one, firstOf-none, firstOf-proper}
-use Rattle.week.proofs.First.{long-passes, short-proper, unless-passed, unless-refused, unless-names}
+use Rattle.week.proofs.First.{long-passes, short-proper, unless-passed, unless-refused, unless-refused-by, unless-names}
 use Rattle.week.proofs.Sound.{sound}
 use Rattle.planner.specs.declared.run.WeekRun.{WeekRun}
 use Rattle.planner.specs.Job.{jobListOf}
@@ -46,7 +46,7 @@ module _ (w : Week) (choice : List ℕ) (size : ℕ) where
 
   pub run-refused : {r : Refusal} → runFault w choice size ≡ r → (r .number ≡ 0 → ⊥) → runAnswer w choice size ≡ refusedRun r
   unfolding runAnswer
-  run-refused e n = unless-refused _ _ _ (refuses-too (sym e) n) ∙ ap refusedRun e
+  run-refused e n = unless-refused-by refusedRun _ e n
 
   pub run-passed : runFault w choice size .number ≡ 0 →
       runAnswer w choice size ≡ logAnswer (workloadOf (jobListOf w) choice) (w .opening) (weekLog w choice)

@@ -9,7 +9,7 @@ use Rattle.week.specs.declared.refusal.Refusal.{Refusal}
 use Rattle.week.specs.Refusal.{accepted, refused}
 use Rattle.week.specs.Fault.{listFault}
 use Rattle.week.proofs.First.{Proper, number-of, refuses, refuses-too, refusedIf-true, refusedIf-false, firstOf-here, firstOf-later}
-use Rattle.week.proofs.First.{firstOf-last, firstOf-proper, unless-passed, unless-refused, unless-names}
+use Rattle.week.proofs.First.{firstOf-last, firstOf-proper, unless-passed, unless-refused-by, unless-names}
 use Rattle.sheet.specs.declared.read.Reading.{Reading}
 use Rattle.sheet.specs.Line.{linesOf}
 use Rattle.sheet.specs.Fault.{maxBytes, sizeFault, linesFault}
@@ -23,7 +23,7 @@ module _ (sheet : List ℕ) where
 
   pub answer-refused : {r : Refusal} → readFault sheet ≡ r → (r .number ≡ 0 → ⊥) → readAnswer sheet ≡ refusedReading r
   unfolding readAnswer
-  answer-refused e n = unless-refused _ _ _ (refuses-too (sym e) n) ∙ ap refusedReading e
+  answer-refused e n = unless-refused-by refusedReading _ e n
 
   pub answer-passed : readFault sheet .number ≡ 0 → readAnswer sheet ≡ record { refusal = accepted; week = sheetWeek sheet }
   unfolding readAnswer

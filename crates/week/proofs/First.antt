@@ -107,6 +107,11 @@ module _ {A : Type 0} (fault : Refusal) (passed other : A) where
         | no n ↦ ap refusalOf (unless-refused n) ∙ named
       ]
 
+-- where it refuses by its fault, it refuses by what the fault equals
+pub unless-refused-by : {A : Type 0} (refusing : Refusal → A) (passed : A) {fault r : Refusal} → fault ≡ r → (r .number ≡ 0 → ⊥) →
+    unlessRefused fault passed (refusing fault) ≡ refusing r
+unless-refused-by refusing passed e n = unless-refused _ _ _ (refuses-too (sym e) n) ∙ ap refusing e
+
 -- ---- of a list
 module _ (r : Refusal) (rs : List Refusal) where
   pub firstOf-here : (r .number ≡ 0 → ⊥) → firstOf (r ∷ rs) ≡ r

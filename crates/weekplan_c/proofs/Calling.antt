@@ -16,7 +16,7 @@ use Rattle.week.specs.declared.refusal.Refusal.{Refusal}
 use Rattle.week.specs.Record.{maxBatches}
 use Rattle.week.specs.Refusal.{firstOf, shortFault}
 use Rattle.week.proofs.First.{number-of, refuses-too, or-first, or-second, firstOf-none, firstOf-last}
-use Rattle.week.proofs.First.{short-proper, unless-passed, unless-refused}
+use Rattle.week.proofs.First.{short-proper, unless-passed, unless-refused, unless-refused-by}
 use Rattle.week.proofs.Sound.{sound}
 use Rattle.week.proofs.Numbers.{Numbered, or-numbered, refusedIf-numbered}
 use Rattle.planner.specs.declared.choose.Plan.{Plan}
@@ -117,7 +117,7 @@ module _ (sheet : List ℕ) (table buffer : ℕ) where
   pub answer-refused : {r : Refusal} → callFault sheet table buffer ≡ r → (r .number ≡ 0 → ⊥) →
       callAnswer sheet table buffer ≡ minusOf (r .number)
   unfolding callAnswer
-  answer-refused e n = unless-refused _ _ _ (refuses-too (sym e) n) ∙ ap (λ (r : Refusal). minusOf (r .number)) e
+  answer-refused e n = unless-refused-by (λ (r : Refusal). minusOf (r .number)) _ e n
 
   pub answer-passed : callFault sheet table buffer .number ≡ 0 → callAnswer sheet table buffer ≡ pos (chooseAnswer w table .total)
   unfolding callAnswer
