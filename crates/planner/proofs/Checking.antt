@@ -33,10 +33,10 @@ module _ (w : Week) (choice : List ℕ) where
   unfolding checkAnswer
   answer-passed z = unless-passed _ _ _ z
 
-  -- what is answered names the first refusal
-  pub answer-names : checkAnswer w choice .refusal ≡ checkFault w choice
+  -- the refusal answered is the first of the order
+  pub answer-refusal : checkAnswer w choice .refusal ≡ checkFault w choice
   unfolding checkAnswer passed refusedCheck checkFault
-  answer-names = unless-names _ _ _ (λ (a : Checked). a .refusal) refl refl (firstOf-proper _)
+  answer-refusal = unless-names _ _ _ (λ (a : Checked). a .refusal) refl refl (firstOf-proper _)
 
   pub fault-handed : (handedFault w choice .number ≡ 0 → ⊥) → checkFault w choice ≡ handedFault w choice
   unfolding checkFault

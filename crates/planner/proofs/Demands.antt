@@ -36,10 +36,10 @@ use Rattle.planner.specs.Run.{chosenRecipe, unreadAt, StationLog, LogSay
 use Rattle.planner.proofs.Handed.{none-handed, handed-passes}
 use Rattle.planner.proofs.Jobs.{handed-names, names-handed, plan-names}
 use Rattle.planner.proofs.Late.{late-recipe}
-use Rattle.planner.proofs.Checking.{answer-refused, answer-passed, answer-names, fault-rule, rule-met, rule-broken}
+use Rattle.planner.proofs.Checking.{answer-refused, answer-passed, answer-refusal, fault-rule, rule-met, rule-broken}
 use Rattle.planner.proofs.Choosing.{long-enough, faultless, plan-passed, answer-fault, fills-faultless}
 use Rattle.planner.proofs.Choosing.{zero-some, fourteen-none, table-kept, table-filled, table-size}
-use Rattle.planner.proofs.Running.{run-names, run-faultless, run-refused, run-passed, log-kept, log-written, long-log}
+use Rattle.planner.proofs.Running.{run-refusal, run-faultless, run-refused, run-passed, log-kept, log-written, long-log}
 use Rattle.planner.proofs.Station.{station-log, week-in-time}
 use Rattle.planner.proofs.Outcomes.{log-says, finished}
 
@@ -48,7 +48,7 @@ use Rattle.planner.proofs.Outcomes.{log-says, finished}
 -- everywhere else.
 pub check-refuses : (w : Week) (choice : List ℕ) → (checkAnswer w choice .refusal .number ≡ 0 → ⊥) →
     checkAnswer w choice ≡ refusedCheck (checkFault w choice)
-check-refuses w choice n = answer-refused w choice refl (λ z. n (number-of (answer-names w choice) ∙ z))
+check-refuses w choice n = answer-refused w choice refl (λ z. n (number-of (answer-refusal w choice) ∙ z))
 
 -- Choose's contract answers `chooseAnswer` and leaves `tableAfter` on every input. Where it refuses, the answer is the first
 -- refusal of Choose's order and 0 everywhere else ..
@@ -88,18 +88,18 @@ module _ (w : Week) (table : List ℕ) (fills : Fills (chooseAnswer w (length ta
 pub run-runs : (w : Week) (choice : List ℕ) (size : ℕ) →
     (runAnswer w choice size .refusal .number ≡ 0) ↔ (WellFormed w × WellChosen w choice × LongLog w size)
 run-runs w choice size =
-    let names = number-of (run-names w choice size) in
+    let same = number-of (run-refusal w choice size) in
     let faultless = run-faultless w choice size in
-    (λ z. faultless .0 (sym names ∙ z), λ h. names ∙ faultless .1 h)
+    (λ z. faultless .0 (sym same ∙ z), λ h. same ∙ faultless .1 h)
 
 -- .. and where it refuses, the answer is the first refusal of Run's order, 0 and set aside everywhere else, and the log is kept.
 pub run-refuses : (w : Week) (choice : List ℕ) (size : ℕ) → (runAnswer w choice size .refusal .number ≡ 0 → ⊥) →
     runAnswer w choice size ≡ refusedRun (runFault w choice size)
-run-refuses w choice size n = run-refused w choice size refl (λ z. n (number-of (run-names w choice size) ∙ z))
+run-refuses w choice size n = run-refused w choice size refl (λ z. n (number-of (run-refusal w choice size) ∙ z))
 
 pub run-keeps : (w : Week) (choice log : List ℕ) → (runAnswer w choice (length log) .refusal .number ≡ 0 → ⊥) →
     logAfter w choice log ≡ log
-run-keeps w choice log n = log-kept w choice log refl (λ z. n (number-of (run-names w choice (length log)) ∙ z))
+run-keeps w choice log n = log-kept w choice log refl (λ z. n (number-of (run-refusal w choice (length log)) ∙ z))
 
 -- Demand 2: "A plan must meet the backward rule of the ECRTS 2008 paper as 01 writes it; a well-formed list's plan that meets
 -- it is passed ..
@@ -116,7 +116,7 @@ module _ (w : Week) (choice : List ℕ) (list : WellFormed w) (handed : WellChos
   pub check-breaks : (meets (weekJobs w) (w .closing) (weekChoice w choice) ≡ true → ⊥) →
       checkAnswer w choice .refusal ≡ refused 15 (failing (weekJobs w) (w .closing) (weekChoice w choice)) 0
   check-breaks unmet =
-      answer-names w choice
+      answer-refusal w choice
       ∙ by-rule
       ∙ rule-broken w choice (λ z. unmet (meets-failing (weekJobs w) (w .closing) (weekChoice w choice) .1 z))
 
@@ -129,7 +129,7 @@ pub record Passed (w : Week) (choice : List ℕ) : Type 0 where
 pub check-passed : (w : Week) (choice : List ℕ) → checkAnswer w choice .refusal .number ≡ 0 → Passed w choice
 unfolding checkFault ruleFault
 check-passed w choice z =
-    let handed = none-handed w choice (ruleFault w choice ∷ []) (number-of (sym (answer-names w choice)) ∙ z) in
+    let handed = none-handed w choice (ruleFault w choice ∷ []) (number-of (sym (answer-refusal w choice)) ∙ z) in
     record {
       list = handed .0;
       handed = handed .1;
@@ -142,7 +142,7 @@ check-passed w choice z =
 -- Run has written ..
 module _ (w : Week) (choice log : List ℕ) (runs : runAnswer w choice (length log) .refusal .number ≡ 0) where
   nothing-refuses : runFault w choice (length log) .number ≡ 0
-  nothing-refuses = number-of (sym (run-names w choice (length log))) ∙ runs
+  nothing-refuses = number-of (sym (run-refusal w choice (length log))) ∙ runs
 
   all-passed : WellFormed w × WellChosen w choice × LongLog w (length log)
   all-passed = run-faultless w choice (length log) .0 nothing-refuses

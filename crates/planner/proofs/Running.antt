@@ -53,10 +53,10 @@ module _ (w : Week) (choice : List ℕ) (size : ℕ) where
   unfolding runAnswer
   run-passed z = unless-passed _ _ _ z
 
-  -- what is answered names the first refusal
-  pub run-names : runAnswer w choice size .refusal ≡ runFault w choice size
+  -- the refusal answered is the first of the order
+  pub run-refusal : runAnswer w choice size .refusal ≡ runFault w choice size
   unfolding runAnswer logAnswer refusedRun runFault
-  run-names = unless-names _ _ _ (λ (a : WeekRun). a .refusal) refl refl (firstOf-proper _)
+  run-refusal = unless-names _ _ _ (λ (a : WeekRun). a .refusal) refl refl (firstOf-proper _)
 
 module _ (w : Week) (choice log : List ℕ) where
   pub log-kept : {r : Refusal} → runFault w choice (length log) ≡ r → (r .number ≡ 0 → ⊥) → logAfter w choice log ≡ log

@@ -14,7 +14,7 @@ use Rattle.sheet.specs.Read.{readFault, refusedReading, readAnswer, Well
 use Rattle.sheet.proofs.LinesWhole.{are-lines}
 use Rattle.sheet.proofs.Written.{faultless}
 use Rattle.sheet.proofs.Beyond.{empty-beyond, sheet-beyond}
-use Rattle.sheet.proofs.Reading.{answer-refused, answer-passed, answer-names}
+use Rattle.sheet.proofs.Reading.{answer-refused, answer-passed, answer-refusal}
 
 -- 01, "The sheet": "Each line is one frame .., ended by a line feed." The lines put together are the sheet, none is empty, and a
 -- line feed ends each but perhaps the last and stands nowhere else.
@@ -25,24 +25,24 @@ read-lines = are-lines
 pub read-passes : (sheet : List ℕ) → readAnswer sheet .refusal .number ≡ 0 →
     WellFormed (readAnswer sheet .week) × (readAnswer sheet .week ≡ sheetWeek sheet)
 read-passes sheet z =
-    let none = number-of (sym (answer-names sheet)) ∙ z in
+    let none = number-of (sym (answer-refusal sheet)) ∙ z in
     let list = ap (λ (a : Reading). a .week) (answer-passed sheet none) in
     (ap listFault list ∙ faultless sheet .0 none .list, list)
 
 -- "An answer of refusal is three numbers: its own, a place and a recipe. Anything else that its record holds is 0".
 pub read-refuses : (sheet : List ℕ) → (readAnswer sheet .refusal .number ≡ 0 → ⊥) →
     readAnswer sheet ≡ refusedReading (readFault sheet)
-read-refuses sheet n = answer-refused sheet refl (λ z. n (number-of (answer-names sheet) ∙ z))
+read-refuses sheet n = answer-refused sheet refl (λ z. n (number-of (answer-refusal sheet) ∙ z))
 
 -- "The number answered is the first in this order whose condition holds" ..
-pub read-names : (sheet : List ℕ) → readAnswer sheet .refusal ≡ readFault sheet
-read-names = answer-names
+pub read-refusal : (sheet : List ℕ) → readAnswer sheet .refusal ≡ readFault sheet
+read-refusal = answer-refusal
 
 -- .. "and nothing else is refused."
 pub read-reads : (sheet : List ℕ) → (readAnswer sheet .refusal .number ≡ 0) ↔ WellWritten sheet
 read-reads sheet = (
-  λ z. faultless sheet .0 (number-of (sym (answer-names sheet)) ∙ z),
-  λ h. number-of (answer-names sheet) ∙ faultless sheet .1 h,
+  λ z. faultless sheet .0 (number-of (sym (answer-refusal sheet)) ∙ z),
+  λ h. number-of (answer-refusal sheet) ∙ faultless sheet .1 h,
 )
 
 -- "Places of an answer beyond n hold 0", of the batches, and of each batch's recipes.

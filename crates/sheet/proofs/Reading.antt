@@ -29,10 +29,10 @@ module _ (sheet : List ℕ) where
   unfolding readAnswer
   answer-passed z = unless-passed _ _ _ z
 
-  -- what is answered names the first refusal
-  pub answer-names : readAnswer sheet .refusal ≡ readFault sheet
+  -- the refusal answered is the first of the order
+  pub answer-refusal : readAnswer sheet .refusal ≡ readFault sheet
   unfolding readAnswer refusedReading
-  answer-names = unless-names _ _ _ (λ (a : Reading). a .refusal) refl refl fault-proper
+  answer-refusal = unless-names _ _ _ (λ (a : Reading). a .refusal) refl refl fault-proper
 
   -- the sheet is too long
   pub large-refused : maxBytes < length sheet → {r : Refusal} → r ≡ refused 18 0 0 → readAnswer sheet ≡ refusedReading r

@@ -18,7 +18,7 @@ use Rattle.planner.specs.Choose.{chooseAnswer, NoPlan, LongEnough}
 use Rattle.sheet.specs.declared.read.Reading.{Reading}
 use Rattle.sheet.specs.List.{sheetWeek}
 use Rattle.sheet.specs.Read.{readFault, WellWritten}
-use Rattle.sheet.proofs.Demands.{read-passes, read-names}
+use Rattle.sheet.proofs.Demands.{read-passes, read-refusal}
 use Rattle.weekplan_c.specs.Call.{bufferFault, keepFault, callFault, minusOf, callAnswer, picksAfter, recipesAfter}
 use Rattle.weekplan_c.specs.Call.{Planned, BestCall, LongBuffer}
 use Rattle.weekplan_c.proofs.Calling.{keep-sheet, keep-sizes, keep-faultless, call-keep, call-plan, answer-refused}
@@ -92,7 +92,7 @@ recipesOf c = start c .args .recipes .now
 
 -- what reading answers
 fault-of : (c : tie.After-read) → c .read .result .refusal ≡ readFault (sheetOf c)
-fault-of c = ap (λ (r : Reading). r .refusal) (c .read .ensures) ∙ read-names (sheetOf c)
+fault-of c = ap (λ (r : Reading). r .refusal) (c .read .ensures) ∙ read-refusal (sheetOf c)
 
 -- the sheet is read
 read-of : (c : tie.Else1) → readFault (sheetOf (reading c)) .number ≡ 0
@@ -102,7 +102,7 @@ week-of : (c : tie.Else1) → reading c .read .result .week ≡ sheetWeek (sheet
 week-of c =
     let read = reading c in
     ap (λ (r : Reading). r .week) (read .read .ensures)
-    ∙ read-passes (sheetOf read) (number-of (read-names (sheetOf read)) ∙ read-of c) .1
+    ∙ read-passes (sheetOf read) (number-of (read-refusal (sheetOf read)) ∙ read-of c) .1
 
 -- the sizes are judged
 sizes-of : (c : tie.After-lent-fault) →
