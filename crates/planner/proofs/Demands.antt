@@ -4,7 +4,7 @@
 use Prim.Native.Nat.{ℕ, _-_, _≤_, _<_}
 use native.Mathlib.Omega.{arith}
 use mathlib.Core.Path.{_≡_, refl, sym, _∙_}
-use mathlib.Core.Logic.{_↔_, _⊎_, inl, inr}
+use mathlib.Core.Logic.{_↔_, _⊎_, inl, inr, ⊎-elim}
 use mathlib.Core.Bool.{true}
 use mathlib.Core.List.{List, [], _∷_, _++_}
 use lib.ListN.{length, getD, drop}
@@ -194,6 +194,19 @@ choose-none w size = (
       let passed = faultless w size .0 (fills-faultless w size .0 (inr f)) in
       (passed .0, passed .1, best-none (weekJobs w) (w .closing) (fourteen-none w size f)),
   λ h. rw (plan-passed w size (faultless w size .1 (h .0, h .1)) (none-best (weekJobs w) (w .closing) (h .2))),
+)
+
+-- 01: "and nothing else is refused": a plan exactly where the list is well formed, the table long enough and some choice meets
+-- the rule.
+pub choose-plans : (w : Week) (size : ℕ) →
+    (chooseAnswer w size .refusal .number ≡ 0) ↔ (WellFormed w × LongEnough w size × (NoPlan w → ⊥))
+choose-plans w size = (
+  λ z.
+      let passed = faultless w size .0 (fills-faultless w size .0 (inl z)) in
+      (passed .0, passed .1, λ no. omega (arith, choose-none w size .1 (passed .0, passed .1, no))),
+  λ h.
+      ⊎-elim (λ z. z) (λ f. absurd (h .2 (choose-none w size .0 f .2)))
+      (fills-faultless w size .1 (faultless w size .1 (h .0, h .1))),
 )
 
 -- So no choice that Check passes is better than the one that Choose answers.

@@ -21,7 +21,7 @@ use Rattle.week.proofs.Sound.{sound}
 use Rattle.planner.specs.Choose.{maxPicks, planChoice, chooseAnswer, PicksTable, NoPlan, LongEnough}
 use Rattle.planner.specs.Run.{runAnswer, LongLog}
 use Rattle.planner.proofs.Choosing.{picks-enough, fills-faultless}
-use Rattle.planner.proofs.Demands.{choose-fills, choose-best, choose-none, choose-names, choose-runs, choose-in-time}
+use Rattle.planner.proofs.Demands.{choose-fills, choose-best, choose-none, choose-plans, choose-names, choose-runs, choose-in-time}
 use Rattle.sheet.specs.List.{sheetWeek}
 use Rattle.sheet.specs.Read.{WellWritten}
 use Rattle.weekplan_c.specs.Call.{bufferFault, keepFault, callFault, minusOf, callAnswer, picksAfter, recipesAfter}
@@ -165,15 +165,12 @@ module _ (sheet : List ℕ) (table buffer : ℕ) where
   call-plans = (
     λ planned.
         let none = call-passed sheet table buffer (planned-passes sheet table buffer .0 planned) in
-        let passed = keep-faultless sheet table buffer .0 (none .0) in (
-          passed .0,
-          passed .1,
-          passed .2,
-          λ no. omega (arith, none .1, choose-none (sheetWeek sheet) table .1 (passed .0 .list, passed .1, no)),
-        ),
+        let passed = keep-faultless sheet table buffer .0 (none .0) in
+        (passed .0, passed .1, passed .2, choose-plans (sheetWeek sheet) table .0 (none .1) .2),
     λ h.
         let passed = keep-faultless sheet table buffer .1 (h .0, h .1, h .2) in
-        ⊎-elim (λ p. p) (λ e. absurd (h .3 (call-none .0 e .3))) (fills-keep-faultless sheet table buffer .1 passed),
+        let planned = choose-plans (sheetWeek sheet) table .1 (h .0 .list, h .1, h .3) in
+        planned-passes sheet table buffer .1 (number-of (call-plan sheet table buffer passed) ∙ planned),
   )
 
   -- include/weekplan.h: 16 × 2,401 bytes of table and 16 of buffer are enough for every list.
