@@ -2,7 +2,7 @@
 use Prim.Native.Nat.{ℕ}
 use mathlib.Core.Bool.{not}
 use mathlib.Core.List.{List, [], _∷_}
-use lib.ListN.{replicate}
+use lib.ListN.{take, replicate}
 use lib.Dec.{eqb}
 use Rattle.jobs.specs.Model.{chosen}
 use Rattle.jobs.specs.Rule.{failing}
@@ -19,6 +19,10 @@ use Rattle.planner.specs.Job.{jobListOf, weekJobs}
 -- a choice handed in, the last batch's recipe first
 abbrev pub weekChoice : Week → List ℕ → List ℕ
 weekChoice w choice = chosen (jobListOf w) choice
+
+-- the choice that the first n bytes of an array are: one recipe a batch
+abbrev pub listChoice : Week → List ℕ → List ℕ
+listChoice w bytes = take (w .count) bytes
 
 -- "15: the choice breaks it (Check), with the first failing position met going backward."
 unfoldable pub ruleFault : Week → List ℕ → Refusal

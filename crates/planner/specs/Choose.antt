@@ -5,7 +5,7 @@ use mathlib.Core.Logic.{_⊎_}
 use mathlib.Core.Bool.{true}
 use mathlib.Core.List.{List, [], _∷_}
 use mathlib.Core.Option.{Option, none, some}
-use lib.ListN.{length, getD, take, replicate}
+use lib.ListN.{length, getD, replicate}
 use Rattle.jobs.specs.declared.model.Job.{Job}
 use Rattle.jobs.specs.Model.{noJob, backward, placed}
 use Rattle.jobs.specs.Rule.{meets}
@@ -19,7 +19,7 @@ use Rattle.week.specs.Record.{maxBatches, maxMinutes, spanOf}
 use Rattle.week.specs.Refusal.{accepted, refused, orElse, firstOf, shortFault, unlessRefused}
 use Rattle.week.specs.Fault.{listFault}
 use Rattle.planner.specs.Job.{jobListOf, weekJobs}
-use Rattle.planner.specs.Check.{weekChoice}
+use Rattle.planner.specs.Check.{weekChoice, listChoice}
 
 -- the minutes from t to c, both included: a row of the picks table has an entry for each
 abbrev pub widthOf : Week → ℕ
@@ -59,9 +59,9 @@ unfoldable pub planOf : Week → Option (List ℕ) → Plan
 planOf w none = refusedPlan (planFault none)
 planOf w (some ks) = record { refusal = accepted; total = total (weekJobs w) ks; choice = placed maxBatches 0 ks }
 
--- a plan as the choice that it is: one recipe a batch
+-- a plan as the choice that it is
 abbrev pub planChoice : Week → Plan → List ℕ
-planChoice w plan = take (w .count) (plan .choice)
+planChoice w plan = listChoice w (plan .choice)
 
 unfoldable pub chooseAnswer : Week → ℕ → Plan
 chooseAnswer w size =

@@ -18,6 +18,7 @@ use Rattle.week.specs.declared.record.Week.{Week}
 use Rattle.week.specs.Record.{maxBatches}
 use Rattle.week.proofs.First.{number-of, long-passes}
 use Rattle.week.proofs.Sound.{sound}
+use Rattle.planner.specs.Check.{listChoice}
 use Rattle.planner.specs.Choose.{maxPicks, planChoice, chooseAnswer, PicksTable, NoPlan, LongEnough}
 use Rattle.planner.specs.Run.{runAnswer, LongLog}
 use Rattle.planner.proofs.Choosing.{picks-enough, fills-faultless}
@@ -25,7 +26,7 @@ use Rattle.planner.proofs.Demands.{choose-fills, choose-best, choose-none, choo
 use Rattle.sheet.specs.List.{sheetWeek}
 use Rattle.sheet.specs.Read.{WellWritten}
 use Rattle.weekplan_c.specs.Call.{bufferFault, keepFault, callFault, minusOf, callAnswer, picksAfter, recipesAfter}
-use Rattle.weekplan_c.specs.Call.{Planned, Fills, callNumber, bufferChoice, BestCall, LongBuffer}
+use Rattle.weekplan_c.specs.Call.{Planned, Fills, callNumber, BestCall, LongBuffer}
 use Rattle.weekplan_c.proofs.Calling.{keep-faultless, fill-faultless, keep-numbered, call-keep, call-plan, call-passed}
 use Rattle.weekplan_c.proofs.Calling.{answer-refused, answer-passed, answer-small, planned-passes, answer-fourteen}
 use Rattle.weekplan_c.proofs.Calling.{fourteen-plan, fills-keep-faultless, picks-filled, picks-kept, recipes-written, recipes-kept}
@@ -112,7 +113,7 @@ module _ (sheet picks recipes : List ℕ) where
         )
 
     -- "Acceptance writes one byte a batch and keeps the rest of that buffer."
-    pub call-writes : bufferChoice w (recipesAfter sheet (length picks) recipes) ≡ plan
+    pub call-writes : listChoice w (recipesAfter sheet (length picks) recipes) ≡ plan
     call-writes = rw (recipes-written sheet picks recipes none) (take-at plan (drop (w .count) recipes) (w .count) whole)
 
     pub call-keeps-rest :
@@ -137,7 +138,7 @@ module _ (sheet picks recipes : List ℕ) where
 
     -- 01: "Run with the same list, with that plan as its choice and with a log that 12 does not catch": Run takes it.
     pub call-runs : (log : List ℕ) → LongLog w (length log) →
-        runAnswer w (bufferChoice w (recipesAfter sheet (length picks) recipes)) (length log) .refusal .number ≡ 0
+        runAnswer w (listChoice w (recipesAfter sheet (length picks) recipes)) (length log) .refusal .number ≡ 0
     call-runs = rw call-writes (choose-runs w (length picks) chosen)
 
 module _ (sheet : List ℕ) (table buffer : ℕ) where

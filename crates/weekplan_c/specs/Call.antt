@@ -5,7 +5,7 @@ use mathlib.Core.Path.{_≡_}
 use mathlib.Core.Logic.{_⊎_}
 use mathlib.Core.Bool.{Bool, _&&_, _||_}
 use mathlib.Core.List.{List, [], _∷_, _++_}
-use lib.ListN.{length, take, drop}
+use lib.ListN.{length, drop}
 use lib.Dec.{leb, eqb}
 use lib.IntN.{ℤ, pos, negℤ}
 use Rattle.jobs.specs.Choice.{total}
@@ -14,7 +14,7 @@ use Rattle.week.specs.declared.record.Week.{Week}
 use Rattle.week.specs.declared.refusal.Refusal.{Refusal}
 use Rattle.week.specs.Refusal.{accepted, orElse, firstOf, shortFault, unlessRefused}
 use Rattle.planner.specs.Job.{weekJobs}
-use Rattle.planner.specs.Check.{weekChoice}
+use Rattle.planner.specs.Check.{weekChoice, listChoice}
 use Rattle.planner.specs.Choose.{tableFault, planFault, weekBest, planChoice, chooseAnswer, tableAfter}
 use Rattle.planner.specs.Run.{logAfter, LongLog, InTime}
 use Rattle.sheet.specs.List.{sheetWeek}
@@ -73,17 +73,13 @@ Fills answer = Planned answer ⊎ (answer ≡ minusOf 14)
 abbrev pub callNumber : ℕ → Bool
 callNumber n = leb n 11 || (eqb n 14 || (leb 16 n && leb n 19))
 
--- the choice that a buffer holds: one recipe a batch
-abbrev pub bufferChoice : Week → List ℕ → List ℕ
-bufferChoice w recipes = take (w .count) recipes
-
 -- demand 3 of the call: "The chosen plan meets the rule and its total is the sum of its worths; every other choice that meets the
 -- rule has a smaller total, or the same total and a higher recipe number at the last batch where the two differ"; "in the
 -- station's run of the chosen plan the minutes each batch gets before its stretch ends number exactly its recipe's minutes"
 pub record BestCall (w : Week) (recipes : List ℕ) (answer : ℤ) : Type 0 where
-  pub chosen : Chosen (weekJobs w) (w .closing) (weekChoice w (bufferChoice w recipes))
-  pub summed : answer ≡ pos (total (weekJobs w) (weekChoice w (bufferChoice w recipes)))
-  pub in-time : (log : List ℕ) → LongLog w (length log) → InTime w (bufferChoice w recipes) (logAfter w (bufferChoice w recipes) log)
+  pub chosen : Chosen (weekJobs w) (w .closing) (weekChoice w (listChoice w recipes))
+  pub summed : answer ≡ pos (total (weekJobs w) (weekChoice w (listChoice w recipes)))
+  pub in-time : (log : List ℕ) → LongLog w (length log) → InTime w (listChoice w recipes) (logAfter w (listChoice w recipes) log)
 
 -- 01, "The words of demand 3": "A table is long enough if 11 does not hold, a recipe buffer if 19 does not."
 abbrev pub LongBuffer : Week → ℕ → Type 0
