@@ -32,7 +32,7 @@ use Rattle.planner.specs.Check.{weekChoice, ruleFault, checkFault, passe
 use Rattle.planner.specs.Choose.{widthOf, chooseFault, refusedPlan, planOf, chooseAnswer, tableAfter}
 use Rattle.planner.specs.Choose.{planChoice, Fills, PicksTable, BestPlan, NoPlan, LongEnough}
 use Rattle.planner.specs.Run.{runFault, weekLog, setAside, refusedRun, runAnswer, logAfter, LongLog}
-use Rattle.planner.specs.Run.{chosenRecipe, unreadAt, StationLog, LogSays, InTime}
+use Rattle.planner.specs.Run.{chosenMinutes, unreadAt, StationLog, LogSays, InTime}
 use Rattle.planner.proofs.Handed.{none-handed, handed-passes}
 use Rattle.planner.proofs.Jobs.{handed-names, names-handed, plan-names}
 use Rattle.planner.proofs.Late.{late-recipe}
@@ -236,7 +236,7 @@ module _
         (week-in-time w choice log (list-sound w choice log runs) (choice-named w choice log runs) meeting)
 
     -- .. so that every batch that is read is finished by the end of its stretch ..
-    pub run-finishes : (i : ℕ) → 1 ≤ i → i ≤ w .count → 1 ≤ chosenRecipe w choice i .cost →
+    pub run-finishes : (i : ℕ) → 1 ≤ i → i ≤ w .count → 1 ≤ chosenMinutes w choice i →
         (f : ℕ)
         × (outcomeNumbers (atPosition setAside (runAnswer w choice (length log) .batches) i .outcome) ≡ 1 ∷ f ∷ [])
         × (f ≤ stretchAt (jobListOf w) choice (w .closing) i .end)

@@ -23,7 +23,7 @@ use Rattle.planner.specs.declared.run.BatchRun.{BatchRun}
 use Rattle.planner.specs.declared.run.WeekRun.{WeekRun}
 use Rattle.planner.specs.Job.{jobListOf, weekJobs}
 use Rattle.planner.specs.Check.{weekChoice}
-use Rattle.planner.specs.Run.{weekLog, setAside, logAnswer, chosenRecipe, outcomeSaid, LogSays}
+use Rattle.planner.specs.Run.{weekLog, setAside, logAnswer, chosenMinutes, outcomeSaid, LogSays}
 use Rattle.planner.proofs.Written.{minutes-written, aside-written}
 use Rattle.planner.proofs.Station.{take-week, planned}
 
@@ -62,13 +62,13 @@ module _ (w : Week) (sound : Sound w) (choice : List ℕ) (named : Named w choic
       ∙ numbers-of _ _ (w .opening) log i
 
   -- a batch that is read has the outcome of its minutes
-  read-at : (i : ℕ) → 1 ≤ i → i ≤ w .count → 1 ≤ chosenRecipe w choice i .cost →
+  read-at : (i : ℕ) → 1 ≤ i → i ≤ w .count → 1 ≤ chosenMinutes w choice i →
       atPosition setAside (logAnswer (workloadOf (jobListOf w) choice) (w .opening) log .batches) i .outcome
       ≡ outcomeOf false (minutesAt (jobListOf w) choice i) (w .opening) log i
   read-at i low high some =
       place-at i low high
       ∙ ap (λ (aside : Bool). outcomeOf aside (minutesAt (jobListOf w) choice i) (w .opening) log i)
-      (aside-written w sound named i low high ∙ ne-eqb (chosenRecipe w choice i .cost) 0 (λ z. omega arith))
+      (aside-written w sound named i low high ∙ ne-eqb (chosenMinutes w choice i) 0 (λ z. omega arith))
 
 module _ (w : Week) (sound : Sound w) (choice : List ℕ) (named : Named w choice) where
   -- the answer by the log
@@ -94,7 +94,7 @@ module _ (w : Week) (sound : Sound w) (choice : List ℕ) (named : Named w choic
 
   -- a choice that meets the rule
   pub finished : meets (weekJobs w) (w .closing) (weekChoice w choice) ≡ true →
-      (i : ℕ) → 1 ≤ i → i ≤ w .count → 1 ≤ chosenRecipe w choice i .cost →
+      (i : ℕ) → 1 ≤ i → i ≤ w .count → 1 ≤ chosenMinutes w choice i →
       (f : ℕ)
       × (outcomeNumbers (atPosition setAside (answer .batches) i .outcome) ≡ 1 ∷ f ∷ [])
       × (f ≤ stretchAt (jobListOf w) choice (w .closing) i .end)

@@ -21,7 +21,7 @@ use Rattle.week.specs.Record.{spanOf, batchOf, readyOf}
 use Rattle.week.proofs.Sound.{Sound, Named}
 use Rattle.planner.specs.Job.{jobListOf, weekJobs}
 use Rattle.planner.specs.Check.{weekChoice}
-use Rattle.planner.specs.Run.{weekLog, chosenRecipe, unreadAt, StationLog, InTime}
+use Rattle.planner.specs.Run.{weekLog, chosenMinutes, unreadAt, StationLog, InTime}
 use Rattle.planner.proofs.Written.{ready-written, minutes-written}
 
 -- a choice that meets the rule is a plan, none of whose batches is ready before the opening
@@ -66,7 +66,7 @@ module _ (w : Week) (choice log : List ℕ) where
         (subst
         (λ (k : ℕ).
         Reads (λ i. readyOf (w .opening) (batchOf w i))
-        (minutesLeft (λ i. chosenRecipe w choice i .cost) (take d (weekLog w choice))) k (w .count) (getD (weekLog w choice) d 0))
+        (minutesLeft (chosenMinutes w choice) (take d (weekLog w choice))) k (w .count) (getD (weekLog w choice) d 0))
         now
         (reads-same (ready-written w sound)
         (λ i low high.

@@ -17,7 +17,7 @@ use Rattle.week.specs.declared.record.Week.{Week}
 use Rattle.week.specs.Record.{maxRecipes, noRecipe, batchAt, batchOf, readyOf}
 use Rattle.week.proofs.Sound.{Sound, Named}
 use Rattle.planner.specs.Job.{versionFrom, jobListOf}
-use Rattle.planner.specs.Run.{chosenRecipe}
+use Rattle.planner.specs.Run.{chosenMinutes}
 use Rattle.planner.proofs.Jobs.{version-at, job-at}
 
 -- a recipe of cost 0 is set aside, and has nothing to read either way
@@ -45,18 +45,18 @@ module _ (w : Week) (sound : Sound w) where
 
     -- the recipe by its number is the one by its index
     cost-written : (i : ℕ) → 1 ≤ i → i ≤ w .count →
-        versionFrom (batchOf w i) (atPosition 0 choice i - 1) .cost ≡ chosenRecipe w choice i .cost
+        versionFrom (batchOf w i) (atPosition 0 choice i - 1) .cost ≡ chosenMinutes w choice i
     cost-written zero low high = absurd (omega arith)
     cost-written (suc i) low high =
         ap (λ (r : Recipe). r .cost)
         (sym (position-index noRecipe (batchAt w i .recipes) (getD choice i 0) (named .low i (omega arith))))
 
-    pub minutes-written : (i : ℕ) → 1 ≤ i → i ≤ w .count → minutesAt (jobListOf w) choice i ≡ chosenRecipe w choice i .cost
+    pub minutes-written : (i : ℕ) → 1 ≤ i → i ≤ w .count → minutesAt (jobListOf w) choice i ≡ chosenMinutes w choice i
     minutes-written i low high =
         ap minutesOf (version-written i low high) ∙ read-cost _ ∙ cost-written i low high
 
     pub aside-written : (i : ℕ) → 1 ≤ i → i ≤ w .count →
-        asideAt (jobListOf w) choice i ≡ eqb (chosenRecipe w choice i .cost) 0
+        asideAt (jobListOf w) choice i ≡ eqb (chosenMinutes w choice i) 0
     aside-written i low high =
         ap (λ (v : Version). not (v .read)) (version-written i low high)
         ∙ Bool·not-not _

@@ -72,9 +72,13 @@ LongLog w size = logFault w size ≡ accepted
 abbrev pub chosenRecipe : Week → List ℕ → ℕ → Recipe
 chosenRecipe w choice i = recipeOf (batchOf w i) (atPosition 0 choice i)
 
+-- the minutes that a choice gives position i, as the desk wrote them
+abbrev pub chosenMinutes : Week → List ℕ → ℕ → ℕ
+chosenMinutes w choice i = chosenRecipe w choice i .cost
+
 -- the minutes of position i that a log has not read when minute m begins
 abbrev pub unreadAt : Week → List ℕ → List ℕ → ℕ → ℕ → ℕ
-unreadAt w choice log m = minutesLeft (λ i. chosenRecipe w choice i .cost) (take (m - w .opening) log)
+unreadAt w choice log m = minutesLeft (chosenMinutes w choice) (take (m - w .opening) log)
 
 -- demand 2: "the station's run is earliest due first, minute by minute, as 01 defines it". 01: "For each minute from t to c − 1,
 -- the station reads the first batch in list order that has s at or before this minute and minutes left to read." "Bytes after
@@ -89,7 +93,7 @@ pub record StationLog (w : Week) (choice before after : List ℕ) : Type 0 where
 -- the minutes left
 abbrev pub outcomeSaid : Week → List ℕ → List ℕ → ℕ → List ℕ
 outcomeSaid w choice log i =
-    let cost = chosenRecipe w choice i .cost in
+    let cost = chosenMinutes w choice i in
     cond (eqb cost 0) (0 ∷ 0 ∷ [])
     (cond (leb cost (entries i log)) (1 ∷ (w .opening + upToLast i log) ∷ []) (2 ∷ (cost - entries i log) ∷ []))
 
@@ -106,4 +110,4 @@ pub record LogSays (w : Week) (choice log : List ℕ) (answer : WeekRun) : Type 
 abbrev pub InTime : Week → List ℕ → List ℕ → Type 0
 InTime w choice log =
     (i : ℕ) → 1 ≤ i → i ≤ w .count →
-    minutesBefore (stretchAt (jobListOf w) choice (w .closing) i .end) (w .opening) log i ≡ chosenRecipe w choice i .cost
+    minutesBefore (stretchAt (jobListOf w) choice (w .closing) i .end) (w .opening) log i ≡ chosenMinutes w choice i
