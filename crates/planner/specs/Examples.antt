@@ -9,7 +9,6 @@ use Rattle.jobs.specs.Rule.{stretchOf, fits, nextBound}
 use Rattle.jobs.specs.Best.{best}
 use Rattle.edf.specs.Run.{entries, minutesLeft, firstOpen, logOf, idle, changesAfter, changes, upToLast, outcomeOf, outcomeNumbers}
 use Rattle.edf.specs.Workload.{choiceLog, workloadOf, outcomeAt}
-use Rattle.select.specs.Row.{score}
 use Rattle.select.specs.Table.{filled}
 use Rattle.week.specs.declared.record.Recipe.{Recipe}
 use Rattle.week.specs.declared.record.Batch.{Batch}
@@ -22,7 +21,6 @@ use Rattle.planner.specs.declared.check.Checked.{Checked}
 use Rattle.planner.specs.declared.choose.Plan.{Plan}
 use Rattle.planner.specs.declared.run.BatchRun.{BatchRun}
 use Rattle.planner.specs.declared.run.WeekRun.{WeekRun}
-use Rattle.planner.specs.Job.{weekJobs}
 use Rattle.planner.specs.Check.{ruleFault, checkFault, passed, refusedCheck, checkAnswer}
 use Rattle.planner.specs.Choose.{widthOf, tableFault, fillFault, refusedPlan, planOf, chooseAnswer, tableAfter}
 use Rattle.planner.specs.Run.{logFault, runFault, weekLog, logAnswer, refusedRun, runAnswer, logAfter}
@@ -176,9 +174,6 @@ table =
     -- a set-aside batch asks nothing, though it arrives after the bound
     ∷ (choose weekAside is (0 ∷ 0 ∷ 0 ∷ 10 ∷ 1 ∷ 2 ∷ 2 ∷ []))
     ∷ (check weekAside (1 ∷ 2 ∷ 2 ∷ []) is (0 ∷ 0 ∷ 0 ∷ 10 ∷ 2 ∷ 4 ∷ 4 ∷ 4 ∷ 4 ∷ 10 ∷ []))
-    -- no choice is not a total of 0: H and I
-    ∷ ((score (weekJobs (weekG (recipe 11 1 ∷ []))) 10 ∷ []) is (0 ∷ []))
-    ∷ ((score (weekJobs (weekG (recipe 11 1 ∷ recipe 0 0 ∷ []))) 10 ∷ []) is (1 ∷ []))
     -- and the picks table: of a plan, of a tie, of a reading worth nothing, of 14, and of a list that is refused
     ∷ (picks weekAside
     is (0 ∷ 0 ∷ 1 ∷ 1 ∷ 1 ∷ 1 ∷ 1 ∷ 1 ∷ 1 ∷ 1 ∷ 1
