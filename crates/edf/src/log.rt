@@ -16,7 +16,7 @@ pub fn entries(log: &[u8], position: u8) -> usize
 }
 
 // How many entries there are up to the last that is this position; 0 if none is.
-pub fn up_to_last(log: &[u8], position: u8) -> usize
+pub(crate) fn up_to_last(log: &[u8], position: u8) -> usize
     ensures { λ r. ⌜ r ≡ upToLast position (now (log .entry)) ⌝ }
 {
     let mut last = 0;
