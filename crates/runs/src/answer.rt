@@ -1,15 +1,17 @@
 // What a case is answered, with its log.
 use crate::case::Case;
+use crate::case::PLACES;
 use crate::case::week;
 use edf::outcome::Outcome;
 use planner::run::WeekRun;
 use planner::run::run;
 use week::record::Week;
 use week::refusal::Refusal;
-ghost use Prim.Native.Nat.{_≤_};
+ghost use Prim.Native.Nat.{_+_, _≤_};
+ghost use Rattle.week.specs.Record.{maxBatches, maxMinutes};
 
 // The bytes of a log, more than a week can need, and what they hold before the call.
-pub const LOG: usize = 2404;
+pub const LOG: usize = (Week::MAX_MINUTES as usize) + 4;
 
 pub const MARK: u8 = 255;
 
@@ -81,8 +83,8 @@ fn fates(run: WeekRun) -> [Fate; Week::MAX_BATCHES] {
     all
 }
 
-fn run_week(w: Week, choice: [u8; 17], named: usize, size: usize) -> Answer
-    requires { ⌜ (named ≤ 17) × (size ≤ 2404) ⌝ }
+fn run_week(w: Week, choice: [u8; PLACES], named: usize, size: usize) -> Answer
+    requires { ⌜ (named ≤ maxBatches + 1) × (size ≤ maxMinutes + 4) ⌝ }
 {
     let mut log = [MARK; LOG];
     let a = run(w, &choice[0..named], &mut log[0..size]);
@@ -108,5 +110,10 @@ fn within(a: u16, most: usize) -> usize
 
 pub fn run_of(c: Case) -> Answer {
     let recipes = c.recipes;
-    run_week(week(c), recipes, within(c.named, 17), within(c.size, LOG))
+    run_week(
+        week(c),
+        recipes,
+        within(c.named, PLACES),
+        within(c.size, LOG),
+    )
 }

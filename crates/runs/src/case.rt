@@ -3,6 +3,9 @@ use week::record::Batch;
 use week::record::Recipe;
 use week::record::Week;
 
+// One place more than a list can have.
+pub const PLACES: usize = Week::MAX_BATCHES + 1;
+
 // The second cost of a batch that has one recipe.
 pub const NONE: u16 = 65535;
 
@@ -15,15 +18,15 @@ pub struct Place {
     pub less: u16,
 }
 
-// The list is the first `count` places, and the choice the first `named` recipes. There is one place more than a list can have.
+// The list is the first `count` places, and the choice the first `named` recipes.
 pub struct Case {
     pub opening: u16,
     pub closing: u16,
     pub count: u16,
     pub named: u16,
     pub size: u16,
-    pub places: [Place; 17],
-    pub recipes: [u8; 17],
+    pub places: [Place; PLACES],
+    pub recipes: [u8; PLACES],
 }
 
 fn batch(p: Place) -> Batch {

@@ -1,6 +1,7 @@
 // Document 01's examples of the run, and the edges of its text and of its refusals.
 use crate::case::Case;
 use crate::case::NONE;
+use crate::case::PLACES;
 use crate::case::Place;
 use crate::judge::judge;
 use crate::reckon::between;
@@ -26,8 +27,8 @@ fn pair(opening: u16, closing: u16, first: Place, second: Place) -> Case {
         count: 2,
         named: 2,
         size: between(opening, closing) + 1,
-        places: [second; 17],
-        recipes: [1; 17],
+        places: [second; PLACES],
+        recipes: [1; PLACES],
     };
     c.places[0] = first;
     c

@@ -1,5 +1,6 @@
 // All lists of two batches in the week of 1 to 6, where a batch with its recipe is one of 144.
 use crate::case::Case;
+use crate::case::PLACES;
 use crate::case::Place;
 use crate::judge::judge;
 use crate::tally::Tally;
@@ -45,8 +46,8 @@ fn case_of(first: u16, second: u16) -> Case {
         count: 2,
         named: 2,
         size: 6,
-        places: [place_of(9, due, first); 17],
-        recipes: [recipe(first); 17],
+        places: [place_of(9, due, first); PLACES],
+        recipes: [recipe(first); PLACES],
     };
     c.places[1] = place_of(8, due_of(due, second), second);
     c.recipes[1] = recipe(second);

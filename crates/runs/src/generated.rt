@@ -1,18 +1,20 @@
 // Generated weeks, of up to 16 batches and mostly of up to 48 minutes, with a choice and a log. Their lists are well formed.
 use crate::case::Case;
 use crate::case::NONE;
+use crate::case::PLACES;
 use crate::case::Place;
 use crate::chance::below;
 use crate::judge::judge;
 use crate::tally::Tally;
 use week::record::Week;
-ghost use Prim.Native.Nat.{_≤_, _<_};
+ghost use Prim.Native.Nat.{_+_, _≤_, _<_};
+ghost use Rattle.week.specs.Record.{maxBatches, maxMinutes};
 
 const WEEKS: u16 = 4000;
 
 // The minutes of a week: now and then up to as many as it may have.
 fn span(week: u16) -> u16
-    ensures { λ r. ⌜ (1 ≤ r) × (r ≤ 2400) ⌝ }
+    ensures { λ r. ⌜ (1 ≤ r) × (r ≤ maxMinutes) ⌝ }
 {
     if below(week, 0, 0, 32) == 0 {
         return 1 + below(week, 0, 1, Week::MAX_MINUTES);
@@ -21,9 +23,9 @@ fn span(week: u16) -> u16
 }
 
 fn batches(week: u16) -> u16
-    ensures { λ r. ⌜ r ≤ 16 ⌝ }
+    ensures { λ r. ⌜ r ≤ maxBatches ⌝ }
 {
-    below(week, 0, 2, 17)
+    below(week, 0, 2, PLACES as u16)
 }
 
 fn opening(week: u16) -> u16
@@ -103,7 +105,7 @@ fn recipe(week: u16, place: u16) -> u8 {
 
 // Its number is no position.
 fn place_of(week: u16, place: u16, due: u16, closing: u16) -> Place
-    requires { ⌜ place ≤ 17 ⌝ }
+    requires { ⌜ place ≤ maxBatches + 1 ⌝ }
 {
     let first = cost(week, place);
     Place {
@@ -143,15 +145,15 @@ fn head(week: u16) -> Case {
         count: batches(week),
         named: named(week),
         size: size(week),
-        places: [place_of(week, 0, 1, closing); 17],
-        recipes: [0; 17],
+        places: [place_of(week, 0, 1, closing); PLACES],
+        recipes: [0; PLACES],
     }
 }
 
 fn case_of(week: u16) -> Case {
     let mut c = head(week);
     let mut due = first(week);
-    for i in 0..17u16 {
+    for i in 0..(PLACES as u16) {
         due = later(due, below(week, i + 1, 6, span(week) / 4 + 2));
         c.places[i as usize] = place_of(week, i + 1, due, c.closing);
         c.recipes[i as usize] = recipe(week, i + 1);

@@ -2,6 +2,7 @@
 use crate::answer::LOG;
 use crate::answer::MARK;
 ghost use Prim.Native.Nat.{_≤_};
+ghost use Rattle.week.specs.Record.{maxMinutes};
 
 // How many minutes were taken, and how many there are up to the last of them.
 pub struct Taken {
@@ -11,7 +12,7 @@ pub struct Taken {
 
 // A position takes the first free minutes from one to another, as many as it needs.
 pub fn take(log: &mut [u8; LOG], from: u16, to: u16, needed: u16, position: u8) -> Taken
-    requires { ⌜ to ≤ 2400 ⌝ }
+    requires { ⌜ to ≤ maxMinutes ⌝ }
 {
     let mut count = 0;
     let mut end = 0;
@@ -33,7 +34,7 @@ pub struct Closed {
 
 // What is free at the close is idle. A block starts where the entry is not the one before.
 pub fn close(log: &mut [u8; LOG], to: u16) -> Closed
-    requires { ⌜ to ≤ 2400 ⌝ }
+    requires { ⌜ to ≤ maxMinutes ⌝ }
 {
     let mut idle = 0;
     let mut blocks = 0;

@@ -16,10 +16,11 @@ use std::num::wrapping_add_u16;
 use week::record::Week;
 use week::refusal::Refusal;
 ghost use Prim.Native.Nat.{_≤_, _<_};
+ghost use Rattle.week.specs.Record.{maxBatches, maxMinutes};
 
 // The minutes from one to another of a week; 0 to one that is not after it, or further off than a week lasts.
 pub fn between(from: u16, to: u16) -> u16
-    ensures { λ r. ⌜ r ≤ 2400 ⌝ }
+    ensures { λ r. ⌜ r ≤ maxMinutes ⌝ }
 {
     if to <= from || Week::MAX_MINUTES < to - from {
         return 0;
@@ -69,7 +70,7 @@ fn fate_of(needed: u16, opening: u16, taken: Taken) -> Fate {
 
 // The batch of index i takes its minutes.
 fn read(c: Case, i: usize, log: &mut [u8; LOG]) -> Fate
-    requires { ⌜ i < 16 ⌝ }
+    requires { ⌜ i < maxBatches ⌝ }
 {
     let p = c.places[i];
     let needed = cost(p, c.recipes[i]);
