@@ -260,6 +260,12 @@ module _ (w : Week) (size : ℕ) (planned : chooseAnswer w size .refusal .number
       rw (plan-passed w size passed (some .1))
       (names-handed w fine (plan-names w fine (some .0) (best-some (weekJobs w) (w .closing) (some .0) (some .1) .valid)))
 
+  -- .. and meets the rule
+  pub choose-meets : meets (weekJobs w) (w .closing) (weekChoice w plan) ≡ true
+  choose-meets =
+      rw (backward-take 0 (chooseAnswer w size .choice) (w .count) (w .count) (omega arith))
+      (choose-best w size planned .chosen .meeting)
+
   -- 01: "Run with the same list, with that plan as its choice and with a log that 12 does not catch".
   module _ (log : List ℕ) (long : LongLog w (length log)) where
     pub choose-runs : runAnswer w plan (length log) .refusal .number ≡ 0
@@ -268,7 +274,4 @@ module _ (w : Week) (size : ℕ) (planned : chooseAnswer w size .refusal .number
         run-runs w plan (length log) .1 (list, well-chosen w choose-names, long)
 
     pub choose-in-time : InTime w plan (logAfter w plan log)
-    choose-in-time =
-        run-in-time w plan log choose-runs
-        (rw (backward-take 0 (chooseAnswer w size .choice) (w .count) (w .count) (omega arith))
-        (choose-best w size planned .chosen .meeting))
+    choose-in-time = run-in-time w plan log choose-runs choose-meets

@@ -51,6 +51,9 @@ module _ (w : Week) (sound : Sound w) where
         ap (λ (r : Recipe). r .cost)
         (sym (position-index noRecipe (batchAt w i .recipes) (getD choice i 0) (named .low i (omega arith))))
 
+    pub version-cost : (i : ℕ) → 1 ≤ i → i ≤ w .count → versionAt (jobListOf w) choice i .cost ≡ chosenMinutes w choice i
+    version-cost i low high = ap (λ (v : Version). v .cost) (version-written i low high) ∙ cost-written i low high
+
     pub minutes-written : (i : ℕ) → 1 ≤ i → i ≤ w .count → minutesAt (jobListOf w) choice i ≡ chosenMinutes w choice i
     minutes-written i low high =
         ap minutesOf (version-written i low high) ∙ read-cost _ ∙ cost-written i low high

@@ -1,0 +1,130 @@
+-- What the buyer asks of the desk's program, each sentence above its theorem. The contract of `report` says that it writes `reportOf`
+-- on every sequence of bytes; the theorems here say that this is what the buyer asks for.
+use Prim.Native.Nat.{ℕ, _≤_}
+use native.Mathlib.Decide.{ℕ-discrete}
+use native.Mathlib.Omega.{arith}
+use mathlib.Core.Path.{_≡_, refl, sym, ap, _∙_}
+use mathlib.Core.Logic.{_↔_}
+use mathlib.Core.List.{List, flatten}
+use Rattle.edf.specs.Run.{idle, changes}
+use Rattle.week.specs.declared.record.Week.{Week}
+use Rattle.week.specs.Record.{maxMinutes}
+use Rattle.week.proofs.First.{number-of, refuses-too, or-first, or-second}
+use Rattle.planner.specs.declared.choose.Plan.{Plan}
+use Rattle.planner.specs.Check.{checkAnswer}
+use Rattle.planner.specs.Choose.{maxPicks, weekBest, planChoice, chooseAnswer, BestPlan, NoPlan}
+use Rattle.planner.specs.Run.{weekLog, runAnswer}
+use Rattle.planner.proofs.Choosing.{picks-enough, plan-refusal, plan-passed, faultless}
+use Rattle.planner.proofs.Demands.{choose-best, choose-plans, choose-names, choose-meets}
+use Rattle.sheet.specs.Line.{linesOf}
+use Rattle.sheet.specs.List.{sheetWeek}
+use Rattle.sheet.specs.Read.{readFault, WellWritten}
+use Rattle.sheet.proofs.Demands.{read-passes, read-refusal, read-reads}
+use Rattle.report.specs.Decimal.{decimal, Numeral}
+use Rattle.report.specs.Line.{refusalLine}
+use Rattle.report.specs.Report.{batchAnswer, planLines, weekLines, reportLines, reportOf, LineSays, reportFault}
+use Rattle.report.proofs.Numerals.{numeral}
+use Rattle.report.proofs.Ended.{lines-flatten, report-ones}
+use Rattle.report.proofs.Reporting.{week-refused, week-planned, planned-list, report-refused, report-read}
+use Rattle.report.proofs.Said.{counts-said, line-says}
+
+-- 01, "The sheet": "Numbers are decimal." One digit or more that spell the number, the first of several not 0.
+pub report-numbers : (n : ℕ) → Numeral n (decimal n)
+report-numbers = numeral
+
+module _ (sheet : List ℕ) where
+  abbrev w : Week
+  w = sheetWeek sheet
+
+  abbrev plan : Plan
+  plan = chooseAnswer w maxPicks
+
+  -- the sheet is refused, ..
+  fault-sheet : (readFault sheet .number ≡ 0 → ⊥) → reportFault sheet ≡ readFault sheet
+  unfolding reportFault
+  fault-sheet n = or-first (readFault sheet) _ n
+
+  -- .. or its list has no plan
+  fault-plan : readFault sheet .number ≡ 0 → reportFault sheet ≡ plan .refusal
+  unfolding reportFault
+  fault-plan z =
+      let list = read-reads sheet .0 (number-of (read-refusal sheet) ∙ z) .list in
+      or-second (readFault sheet) _ z
+      ∙ sym (plan-refusal w (weekBest w))
+      ∙ ap (λ (p : Plan). p .refusal)
+      (sym (plan-passed w maxPicks (faultless w maxPicks .1 (list, picks-enough w maxPicks list (omega arith))) refl))
+
+  -- a sheet that is read has the report of its list
+  lines-read : readFault sheet .number ≡ 0 → reportLines sheet ≡ weekLines w
+  lines-read z =
+      let none = number-of (read-refusal sheet) ∙ z in
+      report-read sheet none ∙ ap weekLines (read-passes sheet none .1)
+
+  -- Demand 1: "Any list, in order or damaged, gets a plan or one numbered refusal with its place". 01: "A refusal writes one line
+  -- only, "refused" and its three numbers": those of the first refusal of the order, ..
+  pub report-refuses : (reportFault sheet .number ≡ 0 → ⊥) → reportOf sheet ≡ refusalLine (reportFault sheet)
+  report-refuses n =
+      elim (ℕ-discrete (readFault sheet .number) 0) [
+        | yes z ↦
+            ap flatten (lines-read z)
+            ∙ week-refused w (refuses-too (fault-plan z) n)
+            ∙ ap refusalLine (sym (fault-plan z))
+        | no f ↦
+            report-refused sheet (refuses-too (sym (read-refusal sheet)) f)
+            ∙ ap refusalLine (read-refusal sheet ∙ sym (fault-sheet f))
+      ]
+
+  -- "Every line ends with a line feed.", and has no other: cut as the lines of a sheet are, the report falls into its lines.
+  pub report-lines : linesOf (reportOf sheet) ≡ reportLines sheet
+  report-lines = lines-flatten (reportLines sheet) (report-ones sheet)
+
+  -- nothing refuses: the sheet is read, and its list has a plan
+  report-passed : reportFault sheet .number ≡ 0 → (readFault sheet .number ≡ 0) × (plan .refusal .number ≡ 0)
+  report-passed none =
+      elim (ℕ-discrete (readFault sheet .number) 0)
+      [ yes z ↦ (z, number-of (sym (fault-plan z)) ∙ none) | no f ↦ absurd (refuses-too (sym (fault-sheet f)) f none) ]
+
+  -- .. "and nothing else is refused."
+  pub report-plans : (reportFault sheet .number ≡ 0) ↔ (WellWritten sheet × (NoPlan w → ⊥))
+  report-plans = (
+    λ none.
+        let both = report-passed none in
+        (read-reads sheet .0 (number-of (read-refusal sheet) ∙ both .0), choose-plans w maxPicks .0 (both .1) .2),
+    λ h.
+        let list = h .0 .list in
+        let read = number-of (sym (read-refusal sheet)) ∙ read-reads sheet .1 (h .0) in
+        number-of (fault-plan read) ∙ choose-plans w maxPicks .1 (list, picks-enough w maxPicks list (omega arith), h .1),
+  )
+
+  -- A plan.
+  module _ (none : reportFault sheet .number ≡ 0) where
+    planned : plan .refusal .number ≡ 0
+    planned = report-passed none .1
+
+    abbrev choice : List ℕ
+    choice = planChoice w plan
+
+    -- "It writes the whole of": the week, the total, and a line for each batch ..
+    pub report-prints : reportLines sheet ≡ planLines w plan
+    report-prints = lines-read (report-passed none .0) ∙ week-planned w planned
+
+    -- .. of the plan that demand 3 asks for: "The chosen plan meets the rule and its total is the sum of its worths; every other
+    -- choice that meets the rule has a smaller total, or the same total and a higher recipe number at the last batch where the two
+    -- differ".
+    pub report-best : BestPlan w plan
+    report-best = choose-best w maxPicks planned
+
+    -- "total 22 changes 4 idle 10": the changes and the idle minutes are those of the station's run of that plan.
+    pub report-counts :
+        (runAnswer w choice maxMinutes .changes ≡ changes (weekLog w choice))
+        × (runAnswer w choice maxMinutes .idle ≡ idle (weekLog w choice))
+    report-counts =
+        counts-said w plan (planned-list w planned) (choose-names w maxPicks planned) (choose-meets w maxPicks planned)
+
+    -- Each line says the desk's own number and minutes, the stretch that the rule gives its batch, and when Run finishes it. 01, "A batch
+    -- line is number, recipe, cost as it counts in the rule, start and end of stretch, finish (0 if set aside)"; and, from demand 3, by
+    -- the end of its stretch every batch that is read is finished.
+    pub report-says : (i : ℕ) → 1 ≤ i → i ≤ w .count →
+        LineSays w choice i (batchAnswer w plan (checkAnswer w choice) (runAnswer w choice maxMinutes) i)
+    report-says =
+        line-says w plan (planned-list w planned) (choose-names w maxPicks planned) (choose-meets w maxPicks planned)

@@ -1,0 +1,9 @@
+pub mod Putting
+pub mod Decimals
+pub mod Numerals
+pub mod Spacing
+pub mod Lines
+pub mod Ended
+pub mod Reporting
+pub mod Said
+pub mod Demands

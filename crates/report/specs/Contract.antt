@@ -1,0 +1,35 @@
+-- What the report's functions ask and answer.
+use Prim.Native.Nat.{ℕ, _+_, _*_, _≤_, _<_}
+use mathlib.Core.Path.{_≡_}
+use mathlib.Core.List.{List, _++_}
+use lib.ListN.{length, getD, take, drop}
+use Rattle.week.specs.declared.record.Week.{Week}
+use Rattle.week.specs.Record.{maxBatches, maxRecipes}
+use Rattle.planner.specs.declared.choose.Plan.{Plan}
+
+-- the widest line of each kind, its line feed counted: "week 65535 65535"; "total 4294967295 changes 65535 idle 65535"; six numbers
+-- of five digits
+abbrev pub weekWidth : ℕ
+weekWidth = 17
+
+abbrev pub totalWidth : ℕ
+totalWidth = 42
+
+abbrev pub batchWidth : ℕ
+batchWidth = 36
+
+-- the longest text
+abbrev pub maxText : ℕ
+maxText = weekWidth + totalWidth + maxBatches * batchWidth
+
+-- a part is put into a text at a place, the next part has its place at `end`, and all else is kept
+pub record Puts (before : List ℕ) (at : ℕ) (part after : List ℕ) (end : ℕ) : Type 0 where
+  pub next : end ≡ at + length part
+  pub room : end ≤ length before
+  pub text : after ≡ take at before ++ (part ++ drop end before)
+
+-- a list and a plan whose lines can be made: each batch has a place, and a recipe that is numbered as recipes are
+pub record Printable (w : Week) (plan : Plan) : Type 0 where
+  pub most : w .count ≤ maxBatches
+  pub low : (i : ℕ) → i < w .count → 1 ≤ getD (plan .choice) i 0
+  pub high : (i : ℕ) → i < w .count → getD (plan .choice) i 0 ≤ maxRecipes

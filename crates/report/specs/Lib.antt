@@ -1,0 +1,5 @@
+pub mod Decimal
+pub mod Line
+pub mod Report
+pub mod Contract
+pub mod Examples

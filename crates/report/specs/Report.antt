@@ -1,0 +1,90 @@
+-- The report of a sheet, line by line: document 01, "The sheet".
+use Prim.Native.Nat.{ℕ, suc, _≤_}
+use mathlib.Core.Path.{_≡_}
+use mathlib.Core.List.{List, [], _∷_, _++_, flatten}
+use lib.ListN.{length, drop}
+use Rattle.jobs.specs.Model.{atPosition, tabulate, versionAt}
+use Rattle.jobs.specs.Contract.{noStretch, stretchAt}
+use Rattle.edf.specs.declared.outcome.Outcome.{Outcome}
+use Rattle.edf.specs.declared.outcome.Outcome.the-variants.{SetAside, Finished, Unfinished}
+use Rattle.week.specs.declared.record.Week.{Week}
+use Rattle.week.specs.declared.refusal.Refusal.{Refusal}
+use Rattle.week.specs.Record.{maxMinutes, batchOf}
+use Rattle.week.specs.Refusal.{orElse, unlessRefused}
+use Rattle.planner.specs.declared.check.Checked.{Checked}
+use Rattle.planner.specs.declared.choose.Plan.{Plan}
+use Rattle.planner.specs.declared.run.WeekRun.{WeekRun}
+use Rattle.planner.specs.Job.{jobListOf}
+use Rattle.planner.specs.Check.{checkAnswer}
+use Rattle.planner.specs.Choose.{maxPicks, planFault, weekBest, planChoice, chooseAnswer}
+use Rattle.planner.specs.Run.{setAside, weekLog, runAnswer, chosenMinutes, outcomeSaid}
+use Rattle.sheet.specs.List.{sheetWeek}
+use Rattle.sheet.specs.Read.{readFault, readAnswer}
+use Rattle.report.specs.declared.line.BatchLine.{BatchLine}
+use Rattle.report.specs.Line.{weekLine, totalLine, batchLine, refusalLine}
+
+-- "finish (0 if set aside)". No batch of a plan is unfinished: `report-says`.
+abbrev pub finishOf : Outcome → ℕ
+finishOf SetAside = 0
+finishOf (Finished minute) = minute
+finishOf (Unfinished left) = 0
+
+-- what the line of position i says, by a plan, the stretches that Check answers of it and the outcomes that Run does
+unfoldable pub batchAnswer : Week → Plan → Checked → WeekRun → ℕ → BatchLine
+batchAnswer w plan checked ran i =
+    record {
+      number = batchOf w i .number;
+      recipe = atPosition 0 (plan .choice) i;
+      cost = versionAt (jobListOf w) (plan .choice) i .cost;
+      start = atPosition noStretch (checked .stretches) i .start;
+      end = atPosition noStretch (checked .stretches) i .end;
+      finish = finishOf (atPosition setAside (ran .batches) i .outcome);
+    }
+
+-- the lines of the batches, in list order
+unfoldable pub batchLines : Week → Plan → Checked → WeekRun → ℕ → List (List ℕ)
+batchLines w plan checked ran n = tabulate (λ i. batchLine (batchAnswer w plan checked ran (suc i))) 0 n
+
+-- of a plan
+unfoldable pub planLines : Week → Plan → List (List ℕ)
+planLines w plan =
+    let checked = checkAnswer w (planChoice w plan) in
+    let ran = runAnswer w (planChoice w plan) maxMinutes in
+    weekLine w ∷ totalLine (plan .total) (ran .changes) (ran .idle) ∷ batchLines w plan checked ran (w .count)
+
+-- of a list: Choose, with a table that is long enough for every list
+unfoldable pub weekLines : Week → List (List ℕ)
+weekLines w =
+    let plan = chooseAnswer w maxPicks in
+    unlessRefused (plan .refusal) (planLines w plan) (refusalLine (plan .refusal) ∷ [])
+
+-- of a sheet
+unfoldable pub reportLines : List ℕ → List (List ℕ)
+reportLines sheet =
+    let reading = readAnswer sheet in
+    unlessRefused (reading .refusal) (weekLines (reading .week)) (refusalLine (reading .refusal) ∷ [])
+
+-- "It writes the whole of": the lines, one after the other
+abbrev pub reportOf : List ℕ → List ℕ
+reportOf sheet = flatten (reportLines sheet)
+
+-- what a lent text holds then: the report, and after it what stood there
+abbrev pub textAfter : List ℕ → List ℕ → List ℕ
+textAfter sheet text = reportOf sheet ++ drop (length (reportOf sheet)) text
+
+-- what the line of position i says: the desk's own number and minutes, the stretch that the rule gives it, and the finish that Run
+-- answers, which is in time. A batch that is set aside has 0 there.
+pub record LineSays (w : Week) (choice : List ℕ) (i : ℕ) (line : BatchLine) : Type 0 where
+  pub number : line .number ≡ batchOf w i .number
+  pub recipe : line .recipe ≡ atPosition 0 choice i
+  pub cost : line .cost ≡ chosenMinutes w choice i
+  pub start : line .start ≡ stretchAt (jobListOf w) choice (w .closing) i .start
+  pub end : line .end ≡ stretchAt (jobListOf w) choice (w .closing) i .end
+  pub aside : line .cost ≡ 0 → line .finish ≡ 0
+  pub finish : 1 ≤ line .cost → outcomeSaid w choice (weekLog w choice) i ≡ 1 ∷ line .finish ∷ []
+  pub in-time : 1 ≤ line .cost → line .finish ≤ line .end
+
+-- the refusals of a report in their order: "Order: 18; then line by line 16, 17; then 1, 2, 3; then batch by batch 4 to 10 ..;
+-- then 14". What 11, 12, 13 and 19 ask of a caller does not arise.
+unfoldable pub reportFault : List ℕ → Refusal
+reportFault sheet = orElse (readFault sheet) (planFault (weekBest (sheetWeek sheet)))
