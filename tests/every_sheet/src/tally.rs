@@ -1,21 +1,15 @@
-//! The counts: by family, by answer, and by what judged it.
+//! The counts of the call, and those of the program: by family and by answer, and the sheets that differ.
 
-/// What the planner's answer was held to.
-#[derive(Clone, Copy)]
-pub enum Judge {
-    EveryChoice,
-    Recursion,
-    Refusals,
+/// Which of the two is counted, and how much of it must have been met.
+pub struct Side {
+    pub name: &'static str,
+    /// The refusal numbers that it can answer.
+    pub refusals: &'static [usize],
+    /// How many sheets must have been compared.
+    pub least_sheets: u64,
+    /// How many answers there must be of each kind.
+    pub least_answers: u64,
 }
-
-/// The refusal numbers that the call can answer.
-const REFUSALS: [usize; 16] = [1, 2, 3, 4, 5, 6, 7, 8, 9, 10, 11, 14, 16, 17, 18, 19];
-
-/// How many sheets must have been compared.
-const LEAST_SHEETS: u64 = 200_000;
-
-/// How many answers there must be of each kind.
-const LEAST_ANSWERS: u64 = 100;
 
 #[derive(Default)]
 struct Family {
@@ -23,36 +17,57 @@ struct Family {
     sheets: u64,
     /// By refusal number, the plans at 0.
     answers: [u64; 20],
-    judged: [u64; 3],
 }
 
-pub struct Tally(Vec<Family>);
+pub struct Tally {
+    side: Side,
+    families: Vec<Family>,
+    differing: u64,
+    /// The first difference, whole.
+    first: Option<String>,
+}
 
 impl Tally {
-    pub fn new() -> Tally {
-        Tally(Vec::new())
+    pub fn new(side: Side) -> Tally {
+        Tally {
+            side,
+            families: Vec::new(),
+            differing: 0,
+            first: None,
+        }
     }
 
     pub fn begin(&mut self, name: &'static str) {
-        self.0.push(Family {
+        self.families.push(Family {
             name,
             ..Family::default()
         });
     }
 
-    pub fn count_sheet(&mut self) {
+    /// One sheet more, whatever the number of its answers.
+    pub fn count_sheet(&mut self, differs: bool) {
         self.family().sheets += 1;
+        self.differing += u64::from(differs);
     }
 
-    /// One call, by the answer that is right.
-    pub fn count_call(&mut self, answer: i32, judge: Judge) {
-        let family = self.family();
-        family.answers[answer.min(0).unsigned_abs() as usize] += 1;
-        family.judged[judge as usize] += 1;
+    /// One answer more, by the refusal number that is right, or 0 for a plan.
+    pub fn count_answer(&mut self, refusal: usize) {
+        self.family().answers[refusal] += 1;
+    }
+
+    pub fn note(&mut self, difference: impl FnOnce() -> String) {
+        if self.first.is_none() {
+            self.first = Some(difference());
+        }
+    }
+
+    /// The sheets of the family that has begun last.
+    pub fn sheets(&self) -> u64 {
+        self.families.last().map_or(0, |family| family.sheets)
     }
 
     fn family(&mut self) -> &mut Family {
-        self.0.last_mut().expect("a family has begun")
+        self.families.last_mut().expect("a family has begun")
     }
 
     fn total(&self) -> Family {
@@ -60,61 +75,56 @@ impl Tally {
             name: "all",
             ..Family::default()
         };
-        for family in &self.0 {
+        for family in &self.families {
             total.sheets += family.sheets;
-            add(&mut total.answers, &family.answers);
-            add(&mut total.judged, &family.judged);
+            let counts = total.answers.iter_mut().zip(family.answers);
+            counts.for_each(|(count, answers)| *count += answers);
         }
         total
     }
 
     pub fn print(&self) {
         let total = self.total();
-        print!("{:<22}{:>8}{:>8}", "family", "sheets", "plans");
-        REFUSALS.iter().for_each(|refusal| print!("{refusal:>7}"));
+        print!("{:<22}{:>8}{:>8}", self.side.name, "sheets", "plans");
+        let refusals = self.side.refusals.iter();
+        refusals.for_each(|refusal| print!("{refusal:>7}"));
         println!();
-        self.0.iter().chain([&total]).for_each(print_family);
-        let [every, recursion, refusals] = total.judged;
-        let calls = every + recursion + refusals;
-        println!("{} sheets in {calls} calls", total.sheets);
-        println!("{every} judged by every choice, the recursion and the same loops");
-        println!("{recursion} judged by the recursion and the same loops");
-        println!("{refusals} refused before a plan is looked for, judged by the reading of the sheet and the list");
+        let families = self.families.iter().chain([&total]);
+        families.for_each(|family| self.print_family(family));
+        println!("{} of {} sheets differ", self.differing, total.sheets);
     }
 
-    /// What the run should have met and has not.
-    pub fn missing(&self) -> Vec<String> {
+    fn print_family(&self, family: &Family) {
+        let plans = family.answers[0];
+        print!("{:<22}{:>8}{plans:>8}", family.name, family.sheets);
+        let refusals = self.side.refusals.iter();
+        refusals.for_each(|&refusal| print!("{:>7}", family.answers[refusal]));
+        println!();
+    }
+
+    /// What is wrong: the first difference, and what the run should have met and has not.
+    pub fn wrong(&self) -> Vec<String> {
+        let Side {
+            name,
+            refusals,
+            least_sheets,
+            least_answers,
+        } = self.side;
         let total = self.total();
-        let mut missing = Vec::new();
-        if total.sheets < LEAST_SHEETS {
-            missing.push(format!("fewer than {LEAST_SHEETS} sheets"));
+        let mut wrong = Vec::new();
+        if let Some(first) = &self.first {
+            wrong.push(format!("{name}, the first difference:\n{first}"));
         }
-        if total.judged.contains(&0) {
-            missing.push("a reference that judged nothing".to_string());
+        if total.sheets < least_sheets {
+            wrong.push(format!("{name}: fewer than {least_sheets} sheets"));
         }
-        for answer in REFUSALS.into_iter().chain([0]) {
-            if total.answers[answer] < LEAST_ANSWERS {
-                missing.push(format!(
-                    "fewer than {LEAST_ANSWERS} answers of {answer} (0: plans)"
+        for &answer in refusals.iter().chain([&0]) {
+            if total.answers[answer] < least_answers {
+                wrong.push(format!(
+                    "{name}: fewer than {least_answers} answers of {answer} (0: plans)"
                 ));
             }
         }
-        missing
+        wrong
     }
-}
-
-fn print_family(family: &Family) {
-    let plans = family.answers[0];
-    print!("{:<22}{:>8}{plans:>8}", family.name, family.sheets);
-    REFUSALS
-        .iter()
-        .for_each(|&refusal| print!("{:>7}", family.answers[refusal]));
-    println!();
-}
-
-fn add(counts: &mut [u64], others: &[u64]) {
-    counts
-        .iter_mut()
-        .zip(others)
-        .for_each(|(count, other)| *count += other);
 }

@@ -2,8 +2,7 @@
 
 use crate::list;
 use crate::plan::Plan;
-use crate::refusal::Refusal;
-use crate::sheet;
+use crate::refusal::{Refusal, Refused};
 use crate::week::Week;
 
 /// "It gets the total, or minus the refusal number." `best` fills the n × (c − t + 1) entries that it is lent.
@@ -15,7 +14,7 @@ pub fn answer(
 ) -> i32 {
     match plan(sheet, picks, recipes, best) {
         Ok(total) => i32::try_from(total).expect("16 worths of 16 bits"),
-        Err(refusal) => -(refusal as i32),
+        Err(refused) => -(refused.refusal as i32),
     }
 }
 
@@ -25,9 +24,8 @@ fn plan(
     picks: &mut [u8],
     recipes: &mut [u8],
     best: impl Fn(&Week, &mut [u8]) -> Option<Plan>,
-) -> Result<u64, Refusal> {
-    let week = sheet::read(sheet)?;
-    list::judge(&week)?;
+) -> Result<u64, Refused> {
+    let week = list::read(sheet)?;
     Refusal::ShortPicks.when(picks.len() < week.entries())?;
     Refusal::ShortRecipes.when(recipes.len() < week.batches.len())?;
     let plan = best(&week, &mut picks[..week.entries()]).ok_or(Refusal::NoPlan)?;

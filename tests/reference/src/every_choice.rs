@@ -3,7 +3,6 @@
 use crate::list;
 use crate::plan::Plan;
 use crate::rule;
-use crate::sheet;
 use crate::week::Week;
 
 /// Document 01, "The picks table": the entry for position i and minute x "is the recipe that the best choice for batches
@@ -55,8 +54,7 @@ fn advance(week: &Week, choice: &mut [u8]) -> bool {
 
 /// How many choices are tried for this sheet's whole table; none if the sheet is refused before its plan is looked for.
 pub fn tries(sheet: &[u8]) -> Option<u64> {
-    let week = sheet::read(sheet).ok()?;
-    list::judge(&week).ok()?;
+    let week = list::read(sheet).ok()?;
     let mut choices = 1u64;
     let mut tries = 0u64;
     for batch in &week.batches {

@@ -1,5 +1,5 @@
-//! The call of the planner a second time, from the text of document 01: three ways to find the best plan under one
-//! reading of the sheet.
+//! The call of the planner and the text of its program a second time, from document 01: three ways to find the best plan
+//! under one reading of the sheet.
 
 mod call;
 mod every_choice;
@@ -8,7 +8,9 @@ mod list;
 mod plan;
 mod recursion;
 mod refusal;
+mod report;
 mod rule;
+mod run;
 mod same_loops;
 mod sheet;
 mod week;
@@ -34,4 +36,9 @@ pub fn recursion(sheet: &[u8], picks: &mut [u8], recipes: &mut [u8]) -> i32 {
 /// By the same recursion, in the order in which the planner goes: recipes outside, minutes inside.
 pub fn same_loops(sheet: &[u8], picks: &mut [u8], recipes: &mut [u8]) -> i32 {
     call::answer(sheet, picks, recipes, same_loops::plan)
+}
+
+/// The whole text that the program weekplan writes for a sheet.
+pub fn report(sheet: &[u8]) -> String {
+    report::text(sheet)
 }

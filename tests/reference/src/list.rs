@@ -1,18 +1,27 @@
 //! Document 01, "The desk, with a list": refusals 1 to 10, "then 1, 2, 3; then batch by batch 4 to 10, each batch
 //! whole before the next".
 
-use crate::refusal::Refusal;
+use crate::refusal::{Refusal, Refused};
+use crate::sheet;
 use crate::week::{Batch, Week};
 
-pub fn judge(week: &Week) -> Result<(), Refusal> {
+/// "Read a sheet, answering a list that passed 1 to 10."
+pub fn read(sheet: &[u8]) -> Result<Week, Refused> {
+    let week = sheet::read(sheet)?;
+    judge(&week)?;
+    Ok(week)
+}
+
+fn judge(week: &Week) -> Result<(), Refused> {
     Refusal::CloseNotAfterOpening.when(week.closing <= week.opening)?;
     Refusal::WeekTooLong.when(week.closing - week.opening > Week::MAX_MINUTES)?;
     Refusal::TooManyBatches.when(week.batches.len() > Week::MAX_BATCHES)?;
-    (0..week.batches.len()).try_for_each(|i| judge_batch(week, i))
+    (0..week.batches.len())
+        .try_for_each(|i| judge_batch(week, i).map_err(|refused| refused.at(i + 1)))
 }
 
 /// The batch with index i, after the batches before it.
-fn judge_batch(week: &Week, i: usize) -> Result<(), Refusal> {
+fn judge_batch(week: &Week, i: usize) -> Result<(), Refused> {
     let (earlier, batch) = (&week.batches[..i], &week.batches[i]);
     let count = batch.recipes.len();
     Refusal::RecipeCount.when(count == 0 || count > Batch::MAX_RECIPES)?;
@@ -25,9 +34,12 @@ fn judge_batch(week: &Week, i: usize) -> Result<(), Refusal> {
     Refusal::BatchOrder.when(before.is_some_and(|other| week.order(other) >= week.order(batch)))
 }
 
-fn judge_recipes(batch: &Batch) -> Result<(), Refusal> {
+/// "Refusal 7 names the first faulty recipe": the second of the first pair.
+fn judge_recipes(batch: &Batch) -> Result<(), Refused> {
     let mut pairs = batch.recipes.windows(2);
     let mut recipes = batch.recipes.iter();
-    Refusal::CostOrder.when(pairs.any(|pair| pair[1].cost > pair[0].cost || pair[0].cost == 0))?;
-    Refusal::WorthSetAside.when(recipes.any(|recipe| recipe.cost == 0 && recipe.worth > 0))
+    let rising_cost = pairs.position(|pair| pair[1].cost > pair[0].cost || pair[0].cost == 0);
+    Refusal::CostOrder.of_recipe(rising_cost.map(|index| index + 2))?;
+    let worth_aside = recipes.position(|recipe| recipe.cost == 0 && recipe.worth > 0);
+    Refusal::WorthSetAside.of_recipe(worth_aside.map(|index| index + 1))
 }

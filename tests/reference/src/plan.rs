@@ -25,7 +25,7 @@ impl Plan {
             if *pick == 0 {
                 return None;
             }
-            bound = rule::next_bound(week, batch, batch.recipe(*pick), bound)?;
+            bound = rule::stretch(week, batch, batch.recipe(*pick), bound)?.start;
         }
         Some(Plan::of(week, recipes))
     }

@@ -1,4 +1,5 @@
-//! Document 01, "Who can be refused, and why": the numbers that the call can answer.
+//! Document 01, "Who can be refused, and why": the numbers that the call and the program can answer, each with a place and
+//! a recipe.
 
 #[derive(Clone, Copy, Debug)]
 pub enum Refusal {
@@ -38,11 +39,47 @@ pub enum Refusal {
 
 impl Refusal {
     /// This refusal, if its condition holds.
-    pub fn when(self, condition: bool) -> Result<(), Refusal> {
+    pub fn when(self, condition: bool) -> Result<(), Refused> {
         if condition {
-            Err(self)
+            Err(self.into())
         } else {
             Ok(())
+        }
+    }
+
+    /// This refusal of the recipe with this number, if there is one: "The recipe is named by 7 and 8, else 0."
+    pub fn of_recipe(self, number: Option<usize>) -> Result<(), Refused> {
+        match number {
+            Some(recipe) => Err(Refused {
+                recipe,
+                ..self.into()
+            }),
+            None => Ok(()),
+        }
+    }
+}
+
+/// "An answer of refusal is three numbers: its own, a place and a recipe."
+#[derive(Clone, Copy, Debug)]
+pub struct Refused {
+    pub refusal: Refusal,
+    pub place: usize,
+    pub recipe: usize,
+}
+
+impl Refused {
+    /// "The place is the batch's position for 4 to 10 .., the line from 1 for 16 and 17 .., else 0."
+    pub fn at(self, place: usize) -> Refused {
+        Refused { place, ..self }
+    }
+}
+
+impl From<Refusal> for Refused {
+    fn from(refusal: Refusal) -> Refused {
+        Refused {
+            refusal,
+            place: 0,
+            recipe: 0,
         }
     }
 }

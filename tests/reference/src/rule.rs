@@ -2,32 +2,54 @@
 
 use crate::week::{Batch, Recipe, Week};
 
-/// The bound that a batch leaves to the ones before it, or none where the rule is broken.
+/// "start and end of stretch".
+pub struct Stretch {
+    pub start: u16,
+    pub end: u16,
+}
+
+/// The stretch of a batch under this bound, or none where the rule is broken.
 ///
 /// "For a batch that is read, its stretch ends at the smaller of d and the bound, and starts its recipe's cost earlier.
-/// The rule asks that s plus the cost is at most that end. The start becomes the next bound. A batch that is set aside
-/// asks nothing and leaves the bound".
-pub fn next_bound(week: &Week, batch: &Batch, recipe: Recipe, bound: u16) -> Option<u16> {
+/// The rule asks that s plus the cost is at most that end. .. A batch that is set aside asks nothing and leaves the bound;
+/// its stretch starts and ends at the bound."
+pub fn stretch(week: &Week, batch: &Batch, recipe: Recipe, bound: u16) -> Option<Stretch> {
     if recipe.sets_aside() {
-        return Some(bound);
+        return Some(Stretch {
+            start: bound,
+            end: bound,
+        });
     }
     let end = batch.due.min(bound);
     let start = end.checked_sub(recipe.cost)?;
-    (week.ready(batch) <= start).then_some(start)
+    (week.ready(batch) <= start).then_some(Stretch { start, end })
 }
 
-/// Whether a choice of the first batches meets the rule: "Go from the last batch to the first, with a bound that starts
-/// at c", which is `close` here.
-pub fn meets(week: &Week, choice: &[u8], close: u16) -> bool {
-    let batches = &week.batches[..choice.len()];
+/// "Go from the last batch to the first, with a bound that starts at c", which is `close` here. ".. The start becomes the
+/// next bound." The stretches of a choice of the first batches, in that order; none for the first that breaks the rule.
+fn backward<'a>(
+    week: &'a Week,
+    choice: &'a [u8],
+    close: u16,
+) -> impl Iterator<Item = Option<Stretch>> + 'a {
     let mut bound = close;
-    for (batch, &number) in batches.iter().zip(choice).rev() {
-        match next_bound(week, batch, batch.recipe(number), bound) {
-            Some(start) => bound = start,
-            None => return false,
-        }
-    }
-    true
+    let chosen = week.batches[..choice.len()].iter().zip(choice);
+    chosen.rev().map(move |(batch, &number)| {
+        let stretch = stretch(week, batch, batch.recipe(number), bound)?;
+        bound = stretch.start;
+        Some(stretch)
+    })
+}
+
+/// Whether a choice of the first batches meets the rule: "if what the rule asks holds at every batch".
+pub fn meets(week: &Week, choice: &[u8], close: u16) -> bool {
+    backward(week, choice, close).all(|stretch| stretch.is_some())
+}
+
+/// The stretches of a choice that meets the rule, in list order.
+pub fn stretches(week: &Week, choice: &[u8]) -> Option<Vec<Stretch>> {
+    let stretches: Option<Vec<Stretch>> = backward(week, choice, week.closing).collect();
+    stretches.map(|stretches| stretches.into_iter().rev().collect())
 }
 
 /// "The total of a choice is the sum of the chosen worths."
