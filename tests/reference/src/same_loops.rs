@@ -1,11 +1,14 @@
-//! The best plan in the planner's order of loops: a row of scores is swept once for each recipe, so that the innermost
-//! loop goes over the minutes.
+//! The best plan in the planner's order of loops: a row of packed words is swept once for each recipe, so that the innermost
+//! loop goes over the minutes, and has no branch.
 
 use crate::plan::Plan;
 use crate::week::{Recipe, Week};
 
-/// A score is 0 where no choice meets the rule, else one more than the best total.
-type Score = u64;
+/// A choice in one number: 16 times one more than its total, plus 16 less its last recipe; 0 where no choice meets the rule.
+/// A score is a word without its recipe.
+type Word = i32;
+
+const RADIX: Word = 16;
 
 /// A batch's minutes, counted from the opening.
 struct Window {
@@ -15,83 +18,88 @@ struct Window {
 
 pub fn plan(week: &Week, picks: &mut [u8]) -> Option<Plan> {
     let closes = week.closes();
-    let mut before = vec![0; closes];
-    let mut scores = vec![1; closes];
+    let mut scores = vec![RADIX; closes];
+    let mut words = vec![0; closes];
+    // The batches so far have a choice from this close on, and none before it.
+    let mut from = 0;
     for (batch, row) in week.batches.iter().zip(picks.chunks_exact_mut(closes)) {
-        std::mem::swap(&mut before, &mut scores);
-        scores.fill(0);
-        row.fill(0);
+        words.fill(0);
+        let ready = usize::from(week.ready(batch) - week.opening);
         let window = Window {
-            ready: usize::from(week.ready(batch) - week.opening),
+            ready: ready.max(from),
             due: usize::from(batch.due.saturating_sub(week.opening)),
         };
+        let mut level = 0;
+        let mut next = closes;
         for (&recipe, number) in batch.recipes.iter().zip(1..) {
-            offer(&window, recipe, number, &before, &mut scores, row);
+            let word = Word::from(recipe.worth) * RADIX + (RADIX - number);
+            if recipe.sets_aside() {
+                shift(&scores[from..], word, &mut words[from..]);
+                next = next.min(from);
+            } else if let Some(first) = window.first(recipe) {
+                level = level.max(offer(&window, first, recipe, word, &scores, &mut words));
+                next = next.min(first);
+            }
         }
+        raise(level, &mut words[closes.min(window.due)..]);
+        settle(&words, &mut scores, row);
+        from = next;
     }
     Plan::read_off(week, picks)
 }
 
-/// One recipe at every close where it fits, taken where its score is greater than the one that stands.
+impl Window {
+    /// The first close that a recipe which is read can have; none if it comes too late for the due minute.
+    fn first(&self, recipe: Recipe) -> Option<usize> {
+        let first = self.ready + usize::from(recipe.cost);
+        (first <= self.due).then_some(first)
+    }
+}
+
+/// A recipe that is read, at every close from its first up to the due minute. Answers what it offers from the due minute
+/// on: one word for every close, or 0 if the row ends before.
 fn offer(
     window: &Window,
+    first: usize,
     recipe: Recipe,
-    number: u8,
-    before: &[Score],
-    scores: &mut [Score],
-    row: &mut [u8],
-) {
-    let closes = row.len();
-    let worth = Score::from(recipe.worth);
-    if recipe.sets_aside() {
-        return shift(before, worth, number, scores, row);
-    }
+    word: Word,
+    scores: &[Word],
+    words: &mut [Word],
+) -> Word {
     let cost = usize::from(recipe.cost);
-    let first = window.ready + cost;
-    if window.due < first || closes <= first {
-        return;
+    let closes = words.len();
+    let end = closes.min(window.due);
+    if first < end {
+        shift(
+            &scores[first - cost..end - cost],
+            word,
+            &mut words[first..end],
+        );
     }
-    let end = window.due.min(closes);
-    let starts = &before[first - cost..end - cost];
-    shift(
-        starts,
-        worth,
-        number,
-        &mut scores[first..end],
-        &mut row[first..end],
-    );
-    if end < closes {
-        let score = raised(before[end - cost], worth);
-        level(score, number, &mut scores[end..], &mut row[end..]);
-    }
-}
-
-/// Up to the due minute: each close has a start of its own.
-fn shift(starts: &[Score], worth: Score, number: u8, scores: &mut [Score], row: &mut [u8]) {
-    for ((&start, score), pick) in starts.iter().zip(scores).zip(row) {
-        let offer = raised(start, worth);
-        if *score < offer {
-            *score = offer;
-            *pick = number;
-        }
-    }
-}
-
-/// From the due minute on: one start, and so one score, for every close.
-fn level(offer: Score, number: u8, scores: &mut [Score], row: &mut [u8]) {
-    for (score, pick) in scores.iter_mut().zip(row) {
-        if *score < offer {
-            *score = offer;
-            *pick = number;
-        }
-    }
-}
-
-/// What a recipe of this worth makes of the score of the batches before.
-fn raised(score: Score, worth: Score) -> Score {
-    if score == 0 {
-        0
+    if window.due < closes {
+        scores[window.due - cost] + word
     } else {
-        score + worth
+        0
+    }
+}
+
+/// Each close has a start of its own.
+fn shift(starts: &[Word], word: Word, words: &mut [Word]) {
+    for (&start, best) in starts.iter().zip(words) {
+        *best = (start + word).max(*best);
+    }
+}
+
+fn raise(level: Word, words: &mut [Word]) {
+    for word in words {
+        *word = level.max(*word);
+    }
+}
+
+/// Each word, taken apart into its score and its recipe.
+fn settle(words: &[Word], scores: &mut [Word], row: &mut [u8]) {
+    for ((&word, score), pick) in words.iter().zip(scores).zip(row) {
+        *score = word - word % RADIX;
+        *pick = ((RADIX - word % RADIX) % RADIX) as u8;
     }
 }
