@@ -14,6 +14,7 @@ use Rattle.jobs.proofs.Arrays.{valid-names}
 use Rattle.jobs.proofs.Named.{named-version}
 use Rattle.jobs.proofs.Places.{tabulate-at}
 use Rattle.jobs.proofs.Sums.{sum-small}
+use Rattle.select.specs.Word.{Packable}
 use Rattle.select.specs.Contract.{Fillable}
 use Rattle.week.specs.declared.record.Batch.{Batch}
 use Rattle.week.specs.declared.record.Week.{Week}
@@ -63,24 +64,31 @@ module _ (w : Week) (sound : Sound w) where
   pub plan-names : (ks : List ℕ) → Valid (weekJobs w) ks → Names (jobListOf w) (placed maxBatches 0 ks)
   plan-names ks valid = valid-names (jobListOf w) ks valid (sound .most) few-versions
 
-  -- its total is at most 1,048,560, each worth having 16 bits, so that 32 hold it
-  module _
-      (fit : (i k : ℕ) → i < maxBatches → k < maxRecipes → recipeAt (batchAt w i) k .worth < 65536)
-      {choice : List ℕ} (names : Names (jobListOf w) choice)
-    where
-      worth-at : (i : ℕ) → i < w .count → versionOf (getD (jobListOf w .jobs) i noJob) (getD choice i 0) .worth ≤ 65535
-      worth-at i l =
-          let k = getD choice i 0 in
-          let named = named-version names i l in
+  -- each worth has 16 bits
+  module _ (fit : (i k : ℕ) → i < maxBatches → k < maxRecipes → recipeAt (batchAt w i) k .worth < 65536) where
+    worth-at : (i k : ℕ) → i < w .count → 1 ≤ k → k ≤ maxRecipes → versionOf (getD (jobListOf w .jobs) i noJob) k .worth ≤ 65535
+    worth-at i k l low high =
+        omega (
+          arith,
+          ap (λ (j : Job). versionOf j k .worth) (job-at i l),
+          ap (λ (v : Version). v .worth) (version-at (w .opening) (batchAt w i) k low high),
+          fit i (k - 1) (omega (arith, sound .most)) (omega arith),
+        )
+
+    -- so that the programme's words have room for it
+    pub packable : (i : ℕ) → i < w .count → Packable (getD (jobListOf w .jobs) i noJob)
+    packable i l k low high = omega (arith, worth-at i k l low (omega (arith, few-versions i l)))
+
+    -- and the total of a choice is at most 1,048,560, which 32 bits hold
+    module _ {choice : List ℕ} (names : Names (jobListOf w) choice) where
+      pub total-small : total (weekJobs w) (weekChoice w choice) ≤ maxBatches * 65535
+      total-small =
           omega (
             arith,
-            ap (λ (j : Job). versionOf j k .worth) (job-at i l),
-            ap (λ (v : Version). v .worth) (version-at (w .opening) (batchAt w i) k (named .0) (named .1)),
-            fit i (k - 1) (omega (arith, sound .most)) (omega arith),
+            sum-small (jobListOf w .jobs) choice 65535 (w .count)
+                (λ i l. let named = named-version names i l in worth-at i (getD choice i 0) l (named .0) (named .1)),
+            sound .most,
           )
-
-      pub total-small : total (weekJobs w) (weekChoice w choice) ≤ maxBatches * 65535
-      total-small = omega (arith, sum-small (jobListOf w .jobs) choice 65535 (w .count) worth-at, sound .most)
 
       pub answerable : Answerable (jobListOf w) choice
       answerable = record { names = names; small = omega (arith, total-small) }

@@ -1,5 +1,7 @@
 pub mod Patches
-pub mod Takes
+pub mod Maps
+pub mod Words
+pub mod Answers
 pub mod Offers
 pub mod Resets
 pub mod Cells

@@ -1,5 +1,5 @@
--- Lists of which a range of entries is changed: one store a turn, said of a wider range, and one range after another.
-use Prim.Native.Nat.{ℕ, _+_, _≤_, _<_}
+-- Lists of which a range of entries is changed: one store more, the same said of a wider range; and a loop that changes them so.
+use Prim.Native.Nat.{ℕ, _+_, _≤_, _<_, max}
 use native.Mathlib.Decide.{decLe, decLt}
 use native.Mathlib.Omega.{arith}
 use mathlib.Core.Path.{_≡_, refl, _∙_}
@@ -52,15 +52,25 @@ module _ {g : ℕ → ℕ} {a b : ℕ} {old new : List ℕ} (h : Patched g a b o
         kept = λ m out. h .kept m (λ i. out (among m (i .0) (i .1)));
       }
 
-  -- changes from b on after those up to b
-  pub patched-join : {c : ℕ} {newer : List ℕ} → a ≤ b → b ≤ c → Patched g b c new newer → Patched g a c old newer
-  patched-join from to then =
-      record {
-        size = then .size ∙ h .size;
-        done = λ m l u.
-            elim (decLt m b) [
-              | yes low ↦ then .kept m (λ i. omega arith) ∙ h .done m l low
-              | no over ↦ then .done m (omega arith) u
-            ];
-        kept = λ m out. then .kept m (λ i. out (omega arith)) ∙ h .kept m (λ i. out (omega arith));
-      }
+-- a loop over the entries from a up to b, which stands at m
+pub record Patching (g : ℕ → ℕ) (a b : ℕ) (old new : List ℕ) (m : ℕ) : Type 0 where
+  pub from : a ≤ m
+  pub to : m ≤ max a b
+  pub patched : Patched g a m old new
+
+pub patching-start : (g : ℕ → ℕ) (a b : ℕ) (old : List ℕ) → Patching g a b old old a
+patching-start g a b old = record { from = omega arith; to = omega arith; patched = patched-start g a old }
+
+module _ {g : ℕ → ℕ} {a b : ℕ} {old new : List ℕ} {m : ℕ} (h : Patching g a b old new m) where
+  -- the entry that is next
+  pub patching-stood : getD new m 0 ≡ getD old m 0
+  patching-stood = h .patched .kept m (λ i. omega arith)
+
+  pub patching-step : m < b → m < length old → {x : ℕ} → x ≡ g m → Patching g a b old (set new m x) (m + 1)
+  patching-step more low e =
+      record { from = omega (arith, h .from); to = omega (arith, h .from); patched = patched-step (h .patched) (h .from) low e }
+
+  pub patching-end : b ≤ m → Patched g a b old new
+  patching-end over =
+      patched-widen (h .patched) a b (λ i l u. omega (arith, h .to))
+      (λ i l u. ⊎-elim (λ out. absurd (omega arith)) (λ out. absurd (omega arith)))

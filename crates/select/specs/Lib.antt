@@ -1,3 +1,4 @@
 pub mod Table
+pub mod Word
 pub mod Row
 pub mod Contract

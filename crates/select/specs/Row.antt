@@ -1,46 +1,63 @@
 -- One row of the programme, as numbers: what each of its functions leaves. Entry m of a row is for the close t + m.
-use Prim.Native.Nat.{ℕ, suc, _+_, _-_, _*_, _≤_, _<_}
+use Prim.Native.Nat.{ℕ, _+_, _-_, _*_, _≤_, _<_, max, min}
 use mathlib.Core.Path.{_≡_}
-use mathlib.Core.Bool.{cond}
+use mathlib.Core.Bool.{cond, _&&_}
 use mathlib.Core.List.{List, _∷_}
-use mathlib.Core.Option.{Option, none, some}
 use lib.ListN.{length, getD}
-use lib.Dec.{ltb, eqb}
+use lib.Dec.{leb, ltb}
 use Rattle.jobs.specs.declared.model.Version.{Version}
 use Rattle.jobs.specs.declared.model.Job.{Job}
-use Rattle.jobs.specs.Model.{maxSpan, max32, tabulate}
+use Rattle.jobs.specs.Model.{maxSpan, versionOf, tabulate}
 use Rattle.jobs.specs.Rule.{fits, nextBound}
 use Rattle.jobs.specs.Choice.{total}
 use Rattle.jobs.specs.Best.{best, pick}
-use Rattle.select.specs.Table.{filled}
+use Rattle.select.specs.Word.{scoreBy, radix, wordOf, raised, maxWord}
 
 -- the entries of a row for the longest week
 abbrev pub rowLength : ℕ
 rowLength = maxSpan + 1
 
--- 0 if no choice exists, else one more than the total: no choice is not a total of 0
-abbrev pub scoreBy : (List ℕ → ℕ) → Option (List ℕ) → ℕ
-scoreBy v none = 0
-scoreBy v (some c) = suc (v c)
-
 abbrev pub score : List Job → ℕ → ℕ
 score js x = scoreBy (total js) (best js x)
 
--- a score to which a worth can be added in 64 bits
-abbrev pub Low : ℕ → Type 0
-Low s = s + max32 < 18446744073709551616
+-- the entries from f on have a choice, and those before it none
+pub record Starts (f : ℕ) (scores : List ℕ) : Type 0 where
+  pub most : f ≤ length scores
+  pub none : (m : ℕ) → m < f → getD scores m 0 ≡ 0
+  pub some : (m : ℕ) → f ≤ m → m < length scores → 0 < getD scores m 0
 
--- a score with one version's worth more; no choice stays no choice
-abbrev pub raised : ℕ → ℕ → ℕ
-raised s worth = cond (eqb s 0) 0 (s + worth)
+-- what version k of job j offers at entry m, over the scores of the jobs before: by the rule
+unfoldable pub offered : Job → ℕ → ℕ → List ℕ → ℕ → ℕ
+offered j k t scores m =
+    cond (fits j (versionOf j k) (t + m))
+    (raised (getD scores (nextBound j (versionOf j k) (t + m) - t) 0) (wordOf (versionOf j k .worth) k))
+    0
 
--- what a version offers at entry m if it starts `cost` minutes earlier
+-- the minutes that a version takes of the station
+abbrev pub minutesOf : Version → ℕ
+minutesOf v = cond (v .read) (v .cost) 0
+
+-- the first entry where version v of job j is offered, if the jobs before have a choice from entry f on; w, the end of the row, if
+-- it comes too late for its due minute
+unfoldable pub firstOffer : Job → Version → ℕ → ℕ → ℕ → ℕ
+firstOffer j v t f w =
+    cond (v .read)
+    (cond (leb (t + (max (j .ready - t) f + v .cost)) (j .due)) (max (j .ready - t) f + v .cost) w)
+    f
+
+-- what a version of word w offers at entry m, from its first on, if it starts `cost` minutes earlier
 abbrev pub shifted : List ℕ → ℕ → ℕ → ℕ → ℕ
-shifted before cost worth m = raised (getD before (m - cost) 0) worth
+shifted scores cost w m = getD scores (m - cost) 0 + w
 
--- what version v of job j offers at entry m, over the scores of the jobs before: by the rule
-unfoldable pub offered : Job → Version → ℕ → List ℕ → ℕ → ℕ
-offered j v t before m = cond (fits j v (t + m)) (raised (getD before (nextBound j v (t + m) - t) 0) (v .worth)) 0
+-- the entry of the due minute, or the end of a row of w entries: from there on a version that is read offers the same
+abbrev pub dueEntry : Job → ℕ → ℕ → ℕ
+dueEntry j t w = min (j .due - t) w
+
+-- what version k, which is v, offers from entry e on, that of the due minute; 0 if it is set aside, or its first entry comes after
+-- that, or the row ends before
+unfoldable pub dueOffer : Version → ℕ → ℕ → ℕ → List ℕ → ℕ
+dueOffer v k first e scores =
+    cond (v .read && leb first e && ltb e (length scores)) (shifted scores (v .cost) (wordOf (v .worth) k) e) 0
 
 -- a list of which the entries from a up to b are now those of g, and the others are kept
 pub record Patched (g : ℕ → ℕ) (a b : ℕ) (old new : List ℕ) : Type 0 where
@@ -48,38 +65,19 @@ pub record Patched (g : ℕ → ℕ) (a b : ℕ) (old new : List ℕ) : Type 0 w
   pub done : (m : ℕ) → a ≤ m → m < b → getD new m 0 ≡ g m
   pub kept : (m : ℕ) → ((a ≤ m) × (m < b) → ⊥) → getD new m 0 ≡ getD old m 0
 
--- from entry a up to b an offer of version k is taken where it is greater than the score that stands
-pub record Taken (offer : ℕ → ℕ) (k a b : ℕ) (scores picks scores′ picks′ : List ℕ) : Type 0 where
-  pub scored : Patched (λ m. cond (ltb (getD scores m 0) (offer m)) (offer m) (getD scores m 0)) a b scores scores′
-  pub picked : Patched (λ m. cond (ltb (getD scores m 0) (offer m)) k (getD picks m 0)) a b picks picks′
+-- from entry a up to b an offer is taken where it is greater than the word that stands
+abbrev pub Taken : (ℕ → ℕ) → ℕ → ℕ → List ℕ → List ℕ → Type 0
+Taken offer a b words words′ = Patched (λ m. max (getD words m 0) (offer m)) a b words words′
 
--- the same at every entry of the row; and if no score before is above b, and none here above b plus the greatest worth, none
--- gets above it
-pub record Offered (offer : ℕ → ℕ) (k : ℕ) (before scores picks scores′ picks′ : List ℕ) : Type 0 where
-  pub taken : Taken offer k 0 (length picks) scores picks scores′ picks′
-  pub low : (b : ℕ) → ((m : ℕ) → getD before m 0 ≤ b) → ((m : ℕ) → getD scores m 0 ≤ b + max32) →
-      (m : ℕ) → getD scores′ m 0 ≤ b + max32
-
--- a row has the scores of the jobs js at each of the w closes from t on
+-- a row has the scores of the jobs js, as words without a version, at each of the w closes from t on
 abbrev pub Scored : List Job → ℕ → ℕ → List ℕ → Type 0
-Scored js t w scores = (m : ℕ) → m < w → getD scores m 0 ≡ score js (t + m)
+Scored js t w scores = (m : ℕ) → m < w → getD scores m 0 ≡ score js (t + m) * radix
 
--- the row of job j, of w entries: from the scores of the jobs before it, whatever they are, its scores and its picks
-pub record FilledRow (j : Job) (t w : ℕ) (before scores picks : List ℕ) : Type 0 where
+-- the row of job j, of w entries: from the scores of the jobs before it, whatever they are, its scores, its picks, and the entry f
+-- from which on it has a choice
+pub record FilledRow (j : Job) (t w : ℕ) (before : List ℕ) (f : ℕ) (scores picks : List ℕ) : Type 0 where
   pub size : length scores ≡ w
   pub scored : (js : List Job) → Scored js t w before → Scored (j ∷ js) t w scores
+  pub starts : (js : List Job) → Scored js t w before → Starts f scores
   pub picked : (js : List Job) → Scored js t w before → picks ≡ tabulate (pick (j ∷ js)) t w
-  pub low : (b : ℕ) → ((m : ℕ) → getD before m 0 ≤ b) → (m : ℕ) → getD scores m 0 ≤ b + max32
-
--- what the jobs js leave: their scores, and their rows of picks in a table that was table₀
-pub record AfterJobs (js : List Job) (t w : ℕ) (table₀ scores table : List ℕ) : Type 0 where
-  pub size : length scores ≡ w
-  pub low : (m : ℕ) → getD scores m 0 ≤ 1 + length js * max32
-  pub scored : Scored js t w scores
-  pub done : table ≡ filled js t w table₀
-
--- what job j leaves after any i jobs, from what they leave
-abbrev pub FilledJob : Job → ℕ → ℕ → ℕ → List ℕ → List ℕ → List ℕ → List ℕ → Type 0
-FilledJob j i t w before table scores table′ =
-    (js : List Job) (table₀ : List ℕ) → length js ≡ i → AfterJobs js t w table₀ before table →
-    AfterJobs (j ∷ js) t w table₀ scores table′
+  pub low : (b : ℕ) → ((m : ℕ) → getD before m 0 ≤ b) → (m : ℕ) → getD scores m 0 ≤ b + maxWord

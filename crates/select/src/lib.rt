@@ -3,3 +3,4 @@ pub mod choice;
 mod offer;
 mod row;
 pub mod table;
+mod word;

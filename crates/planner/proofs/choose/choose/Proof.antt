@@ -1,5 +1,5 @@
 -- `choose` meets its contract: each return is one of the cases of `Choosing`, and what the buyer asks follows.
-use Prim.Native.Nat.{ℕ, _*_, _≤_}
+use Prim.Native.Nat.{ℕ, _*_, _≤_, _<_}
 use mathlib.Core.Path.{_≡_, sym, ap, ap₂, _∙_}
 use mathlib.Core.Logic.{_↔_}
 use mathlib.Core.List.{List}
@@ -14,6 +14,7 @@ use Rattle.select.specs.Table.{filled}
 use Rattle.select.specs.Contract.{bestChoice}
 use Rattle.week.specs.declared.record.Week.{Week}
 use Rattle.week.specs.declared.refusal.Refusal.{Refusal}
+use Rattle.week.specs.Record.{maxBatches, maxRecipes, batchAt, recipeAt}
 use Rattle.week.specs.Fault.{WellFormed}
 use Rattle.week.proofs.First.{number-of}
 use Rattle.week.proofs.Owned.{worths-fit}
@@ -22,7 +23,7 @@ use Rattle.planner.specs.declared.choose.Plan.{Plan}
 use Rattle.planner.specs.Job.{weekJobs}
 use Rattle.planner.specs.Choose.{weekBest, widthOf, fillFault, refusedPlan, planOf, chooseAnswer, tableAfter}
 use Rattle.planner.specs.Choose.{Fills, PicksTable, BestPlan, NoPlan, LongEnough}
-use Rattle.planner.proofs.Jobs.{answerable, fillable}
+use Rattle.planner.proofs.Jobs.{packable, answerable, fillable}
 use Rattle.planner.proofs.Choosing.{faultless, long-enough, plan-refused, plan-passed, table-kept, table-filled}
 use Rattle.planner.proofs.ReadOff.{readable, ReadOff, read-none, read-some, read-names, read-answer}
 use Rattle.planner.proofs.Demands.{choose-fills, choose-best, choose-none}
@@ -83,6 +84,10 @@ fine c = sound _ (number-of (faultless _ _ .0 (faultless-of c) .0))
 long : (c : tie.Else1) → start c .args .week .count * widthOf (start c .args .week) ≤ length (start c .args .table .now)
 long c = long-enough _ _ .0 (faultless _ _ .0 (faultless-of c) .1)
 
+worths : (c : tie.Else1) →
+    (i k : ℕ) → i < maxBatches → k < maxRecipes → recipeAt (batchAt (start c .args .week) i) k .worth < 65536
+worths c = worths-fit (start c .args .week) _ (start c .good .0)
+
 -- what `fill` leaves
 filled-of : (c : tie.After-fill) →
     let args = start (passed c) .args in
@@ -129,7 +134,9 @@ jobs-of-requires c κs = search needs
 fill-requires : tie.Need-fill-requires
 fill-requires c κs =
     let width = c .before .before in
-    rw (c .before .jobs-of .ensures, width .row-width .ensures) (fillable _ (fine (width .before)) _ (long (width .before)))
+    let list = fine (width .before) in
+    rw (c .before .jobs-of .ensures, width .row-width .ensures)
+    (fillable _ list _ (long (width .before)), packable _ list (worths (width .before)))
 
 read-off-requires : tie.Need-read-off-requires
 read-off-requires c κs =
@@ -166,8 +173,7 @@ total-requires c κs =
     let yes = c .before .before .before in
     let done = full (yes .before .before) in
     let list = fine (passed done) in
-    let worths = worths-fit (start (passed done) .args .week) _ (start (passed done) .good .0) in
-    rw (done .before .before .jobs-of .ensures) (answerable _ list worths (read-names _ list (present yes)))
+    rw (done .before .before .jobs-of .ensures) (answerable _ list (worths (passed done)) (read-names _ list (present yes)))
 
 same-length-2 : tie.Need-same-length-2
 same-length-2 c = search needs

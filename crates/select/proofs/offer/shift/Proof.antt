@@ -1,67 +1,61 @@
--- `shift` meets its contract. The loop's invariant is that of takes along a row, two of them a turn; the measure is how many
+-- `shift` meets its contract. The loop's invariant is that of a list of which a range is changed; the measure is how many
 -- entries are left.
 use borrow.Author.Needs.{needs}
 use native.Mathlib.Omega.{arith}
-use Prim.Native.Nat.{_-_, _%_}
-use mathlib.Core.Path.{_≡_, refl}
+use Prim.Native.Nat.{ℕ, _-_, max}
+use mathlib.Core.Path.{ap, _∙_}
+use lib.ListN.{getD}
 use Rattle.select.specs.Row.{shifted}
-use Rattle.select.proofs.Takes.{Taking, taking-start, taking-step, taking-end}
+use Rattle.select.proofs.Patches.{Patching, patching-start, patching-step, patching-stood, patching-end}
 use Rattle.select.proofs.offer.shift.Statement.{statement}
 use Rattle.select.proofs.offer.shift.Tie as tie
 
 abbrev Inv-loop : tie.InvT-loop
-Inv-loop first end cost worth k before scores₀ picks₀ even m₀ scores picks m =
-    Taking (shifted before cost worth) k first end scores₀ picks₀ scores picks m × ((end - m) % 2 ≡ (end - first) % 2)
+Inv-loop first end cost w scores words₀ m₀ words m =
+    Patching (λ i. max (getD words₀ i 0) (shifted scores cost w i)) first end words₀ words m
 
 abbrev μ-loop : tie.MeasureT-loop
-μ-loop first end cost worth k before scores₀ picks₀ even m₀ scores picks m = end - m
-
-returns : tie.Need-returns Inv-loop μ-loop
-returns c = taking-end (taking-start _ _ _ _ _ _) (omega arith)
-
-sub-even : tie.Need-sub-even Inv-loop μ-loop
-sub-even c = search needs
-
-sub-even-2 : tie.Need-sub-even-2 Inv-loop μ-loop
-sub-even-2 c = search needs
+μ-loop first end cost w scores words₀ m₀ words m = end - m
 
 loop-holds : tie.Need-loop-holds Inv-loop μ-loop
-loop-holds c = (taking-start _ _ _ _ _ _, refl)
+loop-holds c = patching-start _ _ _ _
 
-sub-raised : tie.Need-sub-raised Inv-loop μ-loop
-sub-raised c = search needs
+mul-greater : tie.Need-mul-greater Inv-loop μ-loop
+mul-greater c = search needs
 
-mul-raised : tie.Need-mul-raised Inv-loop μ-loop
-mul-raised c = search needs
+slice-read-greater : tie.Need-slice-read-greater Inv-loop μ-loop
+slice-read-greater c = search needs
 
-shared-slice-read-raised : tie.Need-shared-slice-read-raised Inv-loop μ-loop
-shared-slice-read-raised c = search needs
+sub-greater : tie.Need-sub-greater Inv-loop μ-loop
+sub-greater c =
+    let l = c .before .before in
+    omega (arith, l .before .before .before .pre .0 .0 (omega (arith, l .loop .inv .from)), l .loop .inv .from)
 
-raised-requires : tie.Need-raised-requires Inv-loop μ-loop
-raised-requires c κs = c .before .before .before .before .before .before .before .pre .1 _
+mul-greater-2 : tie.Need-mul-greater-2 Inv-loop μ-loop
+mul-greater-2 c = search needs
 
-take-requires : tie.Need-take-requires Inv-loop μ-loop
-take-requires c κs = search needs
+shared-slice-read-greater : tie.Need-shared-slice-read-greater Inv-loop μ-loop
+shared-slice-read-greater c = search needs
 
-add-next : tie.Need-add-next Inv-loop μ-loop
-add-next c = search needs
+add-greater : tie.Need-add-greater Inv-loop μ-loop
+add-greater c =
+    let l = c .before .before .before in
+    let start = l .before .before .before in
+    omega (arith, start .pre .1 .0 (l .loop .m - start .args .cost))
 
-sub-raised-2 : tie.Need-sub-raised-2 Inv-loop μ-loop
-sub-raised-2 c = search needs
+greater-requires : tie.Need-greater-requires Inv-loop μ-loop
+greater-requires c κs =
+    let l = c .before .before .before in
+    let start = l .before .before .before in (
+      omega (arith, start .pre .1 .1 (l .loop .m), patching-stood (l .loop .inv)),
+      omega (arith, start .pre .1 .0 (l .loop .m - start .args .cost)),
+    )
 
-mul-raised-2 : tie.Need-mul-raised-2 Inv-loop μ-loop
-mul-raised-2 c = search needs
+mul-words : tie.Need-mul-words Inv-loop μ-loop
+mul-words c = search needs
 
-shared-slice-read-raised-2 : tie.Need-shared-slice-read-raised-2 Inv-loop μ-loop
-shared-slice-read-raised-2 c = search needs
-
-raised-requires-2 : tie.Need-raised-requires-2 Inv-loop μ-loop
-raised-requires-2 c κs =
-    let l = c .before .before .before .before .before .before .before .before .before .before .before in
-    l .before .before .before .before .before .pre .1 _
-
-take-requires-2 : tie.Need-take-requires-2 Inv-loop μ-loop
-take-requires-2 c κs = search needs
+slice-write-words : tie.Need-slice-write-words Inv-loop μ-loop
+slice-write-words c = search needs
 
 add-m : tie.Need-add-m Inv-loop μ-loop
 add-m c = search needs
@@ -71,52 +65,17 @@ loop-less c = search needs
 
 loop-again : tie.Need-loop-again Inv-loop μ-loop
 loop-again c =
-    let second = c .before .before .before .before in
-    let first = second .before .before .before .before .before .before .before .before .before in
-    let l = first .before .before .before .before .before .before in (
-      taking-step
-          (taking-step (l .loop .inv .0) (omega arith) (first .before .before .before .raised .ensures) (first .take .ensures))
-          (omega arith) (second .before .before .before .raised2 .ensures) (second .take2 .ensures),
-      omega (arith, l .loop .inv),
-    )
-
-sub-raised-3 : tie.Need-sub-raised-3 Inv-loop μ-loop
-sub-raised-3 c = search needs
-
-mul-raised-3 : tie.Need-mul-raised-3 Inv-loop μ-loop
-mul-raised-3 c = search needs
-
-shared-slice-read-raised-3 : tie.Need-shared-slice-read-raised-3 Inv-loop μ-loop
-shared-slice-read-raised-3 c = search needs
-
-raised-requires-3 : tie.Need-raised-requires-3 Inv-loop μ-loop
-raised-requires-3 c κs = c .before .before .before .before .before .before .before .before .pre .1 _
-
-take-requires-3 : tie.Need-take-requires-3 Inv-loop μ-loop
-take-requires-3 c κs = search needs
+    let l = c .before .before .before .before in
+    let start = l .before .before .before in
+    let offer = shifted (start .args .scores .now) (start .args .cost) (start .args .w) (l .loop .m) in
+    patching-step (l .loop .inv) (omega arith) (omega arith)
+    (c .greater .ensures ∙ ap (λ (x : ℕ). max x offer) (patching-stood (l .loop .inv)))
 
 same-length : tie.Need-same-length Inv-loop μ-loop
 same-length c = search needs
 
-same-length-2 : tie.Need-same-length-2 Inv-loop μ-loop
-same-length-2 c = search needs
-
-returns-2 : tie.Need-returns-2 Inv-loop μ-loop
-returns-2 c =
-    let one = c .before .before .before .before in
-    let l = one .before .before .before .before .before .before .before in
-    taking-end
-    (taking-step (l .loop .inv .0) (omega arith) (one .before .before .before .raised3 .ensures) (one .take3 .ensures))
-    (omega arith)
-
-same-length-3 : tie.Need-same-length-3 Inv-loop μ-loop
-same-length-3 c = search needs
-
-same-length-4 : tie.Need-same-length-4 Inv-loop μ-loop
-same-length-4 c = search needs
-
-returns-3 : tie.Need-returns-3 Inv-loop μ-loop
-returns-3 c = taking-end (c .before .before .loop .inv .0) (omega arith)
+returns : tie.Need-returns Inv-loop μ-loop
+returns c = patching-end (c .before .loop .inv) (omega arith)
 
 pub shift-spec : {M : Type 1} → statement M
 shift-spec =
@@ -124,32 +83,18 @@ shift-spec =
     (tie.spec
     Inv-loop
     μ-loop
-    returns
-    sub-even
-    sub-even-2
     loop-holds
-    sub-raised
-    mul-raised
-    shared-slice-read-raised
-    raised-requires
-    take-requires
-    add-next
-    sub-raised-2
-    mul-raised-2
-    shared-slice-read-raised-2
-    raised-requires-2
-    take-requires-2
+    mul-greater
+    slice-read-greater
+    sub-greater
+    mul-greater-2
+    shared-slice-read-greater
+    add-greater
+    greater-requires
+    mul-words
+    slice-write-words
     add-m
     loop-less
     loop-again
-    sub-raised-3
-    mul-raised-3
-    shared-slice-read-raised-3
-    raised-requires-3
-    take-requires-3
     same-length
-    same-length-2
-    returns-2
-    same-length-3
-    same-length-4
-    returns-3)
+    returns)

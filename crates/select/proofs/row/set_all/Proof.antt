@@ -1,4 +1,4 @@
--- `set_scores` meets its contract. The loop's invariant is that of a row which is set; the measure is how many entries are left.
+-- `set_all` meets its contract. The loop's invariant is that of a row which is set; the measure is how many entries are left.
 use borrow.Author.Needs.{needs}
 use native.Mathlib.Omega.{arith}
 use Prim.Native.Nat.{_-_}
@@ -6,23 +6,23 @@ use mathlib.Core.Path.{refl}
 use lib.ListN.{length}
 use Rattle.jobs.proofs.Fills.{Tabulated, tabulated-start, tabulated-step}
 use Rattle.select.proofs.Resets.{reset-size, reset-end}
-use Rattle.select.proofs.row.set_scores.Statement.{statement}
-use Rattle.select.proofs.row.set_scores.Tie as tie
+use Rattle.select.proofs.row.set_all.Statement.{statement}
+use Rattle.select.proofs.row.set_all.Tie as tie
 
 abbrev Inv-loop : tie.InvT-loop
-Inv-loop scores₀ score m₀ m-end scores m = Tabulated (λ i. score) (length scores₀) 0 m scores
+Inv-loop row₀ x m₀ m-end row m = Tabulated (λ i. x) (length row₀) 0 m row
 
 abbrev μ-loop : tie.MeasureT-loop
-μ-loop scores₀ score m₀ m-end scores m = m-end - m
+μ-loop row₀ x m₀ m-end row m = m-end - m
 
 loop-holds : tie.Need-loop-holds Inv-loop μ-loop
 loop-holds c = tabulated-start _ _ _ _ refl
 
-mul-scores : tie.Need-mul-scores Inv-loop μ-loop
-mul-scores c = search needs
+mul-row : tie.Need-mul-row Inv-loop μ-loop
+mul-row c = search needs
 
-slice-write-scores : tie.Need-slice-write-scores Inv-loop μ-loop
-slice-write-scores c = omega (arith, reset-size (c .before .loop .inv))
+slice-write-row : tie.Need-slice-write-row Inv-loop μ-loop
+slice-write-row c = omega (arith, reset-size (c .before .loop .inv))
 
 add-m : tie.Need-add-m Inv-loop μ-loop
 add-m c = search needs
@@ -39,15 +39,15 @@ same-length c = reset-size (c .before .loop .inv)
 returns : tie.Need-returns Inv-loop μ-loop
 returns c = reset-end (c .before .loop .inv) (omega arith)
 
-pub set-scores-spec : {M : Type 1} → statement M
-set-scores-spec =
+pub set-all-spec : {M : Type 1} → statement M
+set-all-spec =
     tie.close
     (tie.spec
     Inv-loop
     μ-loop
     loop-holds
-    mul-scores
-    slice-write-scores
+    mul-row
+    slice-write-row
     add-m
     loop-less
     loop-again
