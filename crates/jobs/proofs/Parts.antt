@@ -23,7 +23,7 @@ pub record Parts (j : Job) (js : List Job) (x k : ℕ) (ks : List ℕ) : Type 0 
   pub rest : best js (nextBound j (versionOf j k) x) ≡ some ks
 
 -- a choice, if there is one, names a version first, and P holds of it and the rest
-abbrev Leads : (ℕ → List ℕ → Type 0) → Option (List ℕ) → Type 0
+abbrev pub Leads : (ℕ → List ℕ → Type 0) → Option (List ℕ) → Type 0
 Leads P none = Unit {0}
 Leads P (some []) = ⊥
 Leads P (some (k ∷ ks)) = P k ks
@@ -34,7 +34,7 @@ module _ (P : ℕ → List ℕ → Type 0) (v : List ℕ → ℕ) where
   leads-greater (some a) none h l = h
   leads-greater (some a) (some b) h l = cond-both (Leads P) (ltb (v a) (v b)) l h
 
-  leads-among : (f : ℕ → Option (List ℕ)) (n : ℕ) → ((k : ℕ) → 1 ≤ k → k ≤ n → Leads P (f k)) → Leads P (among v f n)
+  pub leads-among : (f : ℕ → Option (List ℕ)) (n : ℕ) → ((k : ℕ) → 1 ≤ k → k ≤ n → Leads P (f k)) → Leads P (among v f n)
   leads-among f zero each = tt
   leads-among f (suc n) each =
       leads-greater (among v f n) (f (suc n)) (leads-among f n (λ k l h. each k l (omega arith)))

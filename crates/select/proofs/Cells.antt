@@ -1,5 +1,5 @@
 -- One cell of a row: the word of the best choice with one of the first versions, and what one version more makes of it.
-use Prim.Native.Nat.{ℕ, zero, suc, _+_, _-_, _*_, _≤_, _<_, max}
+use Prim.Native.Nat.{ℕ, suc, _+_, _-_, _*_, _≤_, _<_, max}
 use native.Mathlib.Omega.{arith}
 use mathlib.Core.Path.{_≡_, refl, ap, _∙_}
 use mathlib.Core.Bool.{Bool, true, false, cond}
@@ -13,9 +13,10 @@ use Rattle.jobs.specs.Choice.{total}
 use Rattle.jobs.specs.Best.{best}
 use Rattle.jobs.proofs.Rules.{bound-in}
 use Rattle.jobs.proofs.Programme.{within, step, among}
+use Rattle.jobs.proofs.Parts.{leads-among}
 use Rattle.select.specs.Word.{radix, wordOf, wordBy, raised}
 use Rattle.select.specs.Row.{score, offered, Scored}
-use Rattle.select.proofs.Words.{LastIn, last-wider, last-greater, word-greater, raised-word}
+use Rattle.select.proofs.Words.{LastIn, word-greater, raised-word}
 
 -- the best choice of the jobs js with version k of job j after them, and with one of its first k versions
 abbrev bestWith : Job → List Job → ℕ → ℕ → Option (List ℕ)
@@ -25,21 +26,18 @@ abbrev pub bestOf : Job → List Job → ℕ → ℕ → Option (List ℕ)
 bestOf j js x = among (total (j ∷ js)) (bestWith j js x)
 
 -- version k is the last of each choice that it is put before
-last-step : (j : Job) (x k : ℕ) (o : Option (List ℕ)) → LastIn k k (step j x k o)
-last-step j x k o = by-fit (fits j (versionOf j k) x) o
+last-step : (a b : ℕ) (j : Job) (x k : ℕ) → a ≤ k → k ≤ b → (o : Option (List ℕ)) → LastIn a b (step j x k o)
+last-step a b j x k low high o = by-fit (fits j (versionOf j k) x) o
   where
-    by-fit : (q : Bool) (o : Option (List ℕ)) → LastIn k k (cond q (within k o) none)
+    by-fit : (q : Bool) (o : Option (List ℕ)) → LastIn a b (cond q (within k o) none)
     by-fit true none = tt
-    by-fit true (some c) = (omega arith, omega arith)
+    by-fit true (some c) = (low, high)
     by-fit false o = tt
 
 pub last-best : (j : Job) (js : List Job) (x k : ℕ) → LastIn 1 k (bestOf j js x k)
-last-best j js x zero = tt
-last-best j js x (suc k) =
-    last-greater 1 (suc k) (total (j ∷ js)) (bestOf j js x k) (bestWith j js x (suc k))
-    (last-wider 1 k 1 (suc k) (omega arith) (omega arith) (bestOf j js x k) (last-best j js x k))
-    (last-wider (suc k) (suc k) 1 (suc k) (omega arith) (omega arith) (bestWith j js x (suc k))
-    (last-step j x (suc k) (best js (nextBound j (versionOf j (suc k)) x))))
+last-best j js x k =
+    leads-among _ (total (j ∷ js)) (bestWith j js x) k
+    (λ i low high. last-step 1 k j x i low high (best js (nextBound j (versionOf j i) x)))
 
 -- entry m of the row of job j, over a row that has the scores of the jobs js
 module _
@@ -70,4 +68,5 @@ module _
         rw (e, offer-word (suc k))
         (word-greater (total (j ∷ js)) k few (bestOf j js (t + m) k) (bestWith j js (t + m) (suc k))
         (last-best j js (t + m) k)
-        (last-step j (t + m) (suc k) (best js (nextBound j (versionOf j (suc k)) (t + m)))))
+        (last-step (suc k) (suc k) j (t + m) (suc k) (omega arith) (omega arith)
+        (best js (nextBound j (versionOf j (suc k)) (t + m)))))

@@ -6,6 +6,8 @@ pub mod Offers
 pub mod Resets
 pub mod Cells
 pub mod Rows
+pub mod RowStep
+pub mod RowEnd
 pub mod Picks
 pub mod Tables
 pub mod Entries

@@ -10,11 +10,11 @@ use lib.Seq.{getD-set-other}
 use Rattle.jobs.proofs.Fills.{set-each}
 use Rattle.select.specs.Row.{Patched}
 
-pub patched-start : (g : ℕ → ℕ) (a : ℕ) (old : List ℕ) → Patched g a a old old
+patched-start : (g : ℕ → ℕ) (a : ℕ) (old : List ℕ) → Patched g a a old old
 patched-start g a old = record { size = refl; done = λ m l u. absurd (omega arith); kept = λ m out. refl }
 
 module _ {g : ℕ → ℕ} {a b : ℕ} {old new : List ℕ} (h : Patched g a b old new) where
-  pub patched-step : a ≤ b → b < length old → {x : ℕ} → x ≡ g b → Patched g a (b + 1) old (set new b x)
+  patched-step : a ≤ b → b < length old → {x : ℕ} → x ≡ g b → Patched g a (b + 1) old (set new b x)
   patched-step from low {x} e =
       record {
         size = length-set new b x ∙ h .size;

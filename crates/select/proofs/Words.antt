@@ -3,7 +3,7 @@ use Prim.Native.Nat.{ℕ, suc, _+_, _*_, _≤_, _<_, max}
 use native.Mathlib.Omega.{arith}
 use mathlib.Core.Path.{_≡_, refl}
 use mathlib.Core.Bool.{Bool, true, false, cond}
-use mathlib.Core.List.{List, _∷_}
+use mathlib.Core.List.{List, [], _∷_}
 use mathlib.Core.Option.{Option, none, some}
 use lib.Dec.{ltb, eqb}
 use borrow.Author.Tests.{ltb-true, ltb-false, ne-eqb}
@@ -13,47 +13,43 @@ use Rattle.jobs.specs.Choice.{total}
 use Rattle.jobs.specs.Best.{greater, lastVersion}
 use Rattle.jobs.proofs.Cases.{cond-both}
 use Rattle.jobs.proofs.Programme.{within}
+use Rattle.jobs.proofs.Parts.{Leads}
 use Rattle.select.specs.Word.{scoreBy, radix, wordOf, wordBy, scorePart, versionPart, raised}
 
 -- the last version of a choice, if there is one, is from a to b
 abbrev pub LastIn : ℕ → ℕ → Option (List ℕ) → Type 0
-LastIn a b none = Unit {0}
-LastIn a b (some c) = (a ≤ lastVersion (some c)) × (lastVersion (some c) ≤ b)
-
-pub last-wider : (a b a′ b′ : ℕ) → a′ ≤ a → b ≤ b′ → (o : Option (List ℕ)) → LastIn a b o → LastIn a′ b′ o
-last-wider a b a′ b′ low high none h = h
-last-wider a b a′ b′ low high (some c) h = (omega arith, omega arith)
-
-pub last-greater : (a b : ℕ) (v : List ℕ → ℕ) (o p : Option (List ℕ)) → LastIn a b o → LastIn a b p → LastIn a b (greater v o p)
-last-greater a b v none p h i = i
-last-greater a b v (some c) none h i = h
-last-greater a b v (some c) (some d) h i = cond-both (LastIn a b) (ltb (v c) (v d)) i h
+LastIn a b = Leads (λ k ks. (a ≤ k) × (k ≤ b))
 
 -- the greater of two choices has the greater word, if the last version of the second is the higher
 pub word-greater : (v : List ℕ → ℕ) (k : ℕ) → k < radix → (a b : Option (List ℕ)) → LastIn 1 k a → LastIn (suc k) (suc k) b →
     max (wordBy v a) (wordBy v b) ≡ wordBy v (greater v a b)
 word-greater v k few none b h i = omega arith
 word-greater v k few (some a) none h i = omega arith
-word-greater v k few (some a) (some b) h i = by-test (ltb (v a) (v b)) refl
+word-greater v k few (some []) (some b) h i = absurd h
+word-greater v k few (some (a ∷ rest)) (some []) h i = absurd i
+word-greater v k few (some (a ∷ rest)) (some (b ∷ rest′)) h i = by-test (ltb (v (a ∷ rest)) (v (b ∷ rest′))) refl
   where
-    by-test : (q : Bool) → ltb (v a) (v b) ≡ q →
-        max (wordBy v (some a)) (wordBy v (some b)) ≡ wordBy v (cond q (some b) (some a))
-    by-test true more = omega (arith, ltb-true (v a) (v b) more)
-    by-test false less = omega (arith, ltb-false (v a) (v b) less)
+    by-test : (q : Bool) → ltb (v (a ∷ rest)) (v (b ∷ rest′)) ≡ q →
+        max (wordBy v (some (a ∷ rest))) (wordBy v (some (b ∷ rest′))) ≡ wordBy v (cond q (some (b ∷ rest′)) (some (a ∷ rest)))
+    by-test true more = omega (arith, ltb-true (v (a ∷ rest)) (v (b ∷ rest′)) more)
+    by-test false less = omega (arith, ltb-false (v (a ∷ rest)) (v (b ∷ rest′)) less)
 
 -- a word taken apart
 module _ (v : List ℕ → ℕ) (k : ℕ) (few : k < radix) where
   pub word-score : (o : Option (List ℕ)) → LastIn 1 k o → scorePart (wordBy v o) ≡ scoreBy v o * radix
   word-score none h = refl
-  word-score (some c) h = omega arith
-
-  pub word-some : (o : Option (List ℕ)) → 0 < wordBy v o → 0 < scoreBy v o
-  word-some none h = absurd (omega arith)
-  word-some (some c) h = omega arith
+  word-score (some []) h = absurd h
+  word-score (some (c ∷ cs)) h = omega arith
 
   pub word-version : (o : Option (List ℕ)) → LastIn 1 k o → versionPart (wordBy v o) ≡ lastVersion o
   word-version none h = refl
-  word-version (some c) h = omega arith
+  word-version (some []) h = absurd h
+  word-version (some (c ∷ cs)) h = omega arith
+
+-- a word above 0 has a score above 0
+pub word-some : (v : List ℕ → ℕ) (o : Option (List ℕ)) → 0 < wordBy v o → 0 < scoreBy v o
+word-some v none h = absurd (omega arith)
+word-some v (some c) h = omega arith
 
 -- a version's word over the score of a choice is the word of the choice with that version
 pub raised-word : (j : Job) (js : List Job) (k : ℕ) (o : Option (List ℕ)) →

@@ -8,8 +8,9 @@ use lib.ListN.{length}
 use Rattle.jobs.specs.Model.{maxVersions}
 use Rattle.select.specs.Word.{maxWorth}
 use Rattle.select.specs.Row.{minutesOf}
-use Rattle.select.proofs.Rows.{Ready, Row, row-start, row-step, row-end}
-use Rattle.select.proofs.Rows.{row-small, level-small, first-high, due-small}
+use Rattle.select.proofs.Rows.{Ready, Row, row-start, row-small, level-small}
+use Rattle.select.proofs.RowStep.{first-high, due-small, row-step}
+use Rattle.select.proofs.RowEnd.{row-end}
 use Rattle.select.proofs.row.fill_row.Statement.{statement}
 use Rattle.select.proofs.row.fill_row.Tie as tie
 
