@@ -78,7 +78,7 @@ impl Session {
 
     /// A sheet, with tables and buffers of these sizes.
     pub fn compare_sizes(&mut self, sheet: &[u8], sizes: &[(usize, usize)]) {
-        if self.call.sheets() % PROGRAM_TAKES_ONE_OF == 0 {
+        if self.call.sheets().is_multiple_of(PROGRAM_TAKES_ONE_OF) {
             self.compare_text(sheet, None);
         }
         let mut differs = false;
