@@ -1,7 +1,7 @@
 // One week: Choose's answer and every byte of its table against trying every choice.
-use crate::every::Choice;
-use crate::every::best;
-use crate::every::none;
+use crate::every_choice::Choice;
+use crate::every_choice::best;
+use crate::every_choice::none;
 use crate::remainder::remainder;
 use crate::tally::Tally;
 use planner::choose::Plan;

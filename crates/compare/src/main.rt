@@ -1,13 +1,13 @@
 // Choose, table included, against trying every choice: over all weeks of a small family and over generated ones. The counts that
 // document 01's text gives stand in stdout.
-mod draw;
-mod every;
+mod every_choice;
 mod family;
+mod generated;
 mod judge;
 mod remainder;
 mod tally;
 
 fn main() {
     family::judge_all().show(b"family");
-    draw::judge_all().show(b"generated");
+    generated::judge_all().show(b"generated");
 }

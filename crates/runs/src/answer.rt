@@ -21,8 +21,8 @@ pub const FINISHED: u8 = 1;
 
 pub const UNFINISHED: u8 = 2;
 
-// The kind of an outcome, and the minute or the minutes that it names.
-pub struct Fate {
+// An outcome as numbers: its kind, and the minute or the minutes that it names.
+pub struct OutcomeNumbers {
     pub kind: u8,
     pub minutes: u16,
 }
@@ -31,14 +31,14 @@ pub struct Answer {
     pub refusal: Refusal,
     pub idle: u16,
     pub changes: u16,
-    pub fates: [Fate; Week::MAX_BATCHES],
+    pub outcomes: [OutcomeNumbers; Week::MAX_BATCHES],
     pub log: [u8; LOG],
 }
 
 impl Answer {
     // No minutes, and every place set aside.
     pub fn bare(refusal: Refusal) -> Answer {
-        let aside = Fate {
+        let aside = OutcomeNumbers {
             kind: ASIDE,
             minutes: 0,
         };
@@ -46,31 +46,31 @@ impl Answer {
             refusal,
             idle: 0,
             changes: 0,
-            fates: [aside; Week::MAX_BATCHES],
+            outcomes: [aside; Week::MAX_BATCHES],
             log: [MARK; LOG],
         }
     }
 }
 
-fn fate_of(outcome: Outcome) -> Fate {
+fn numbers_of(outcome: Outcome) -> OutcomeNumbers {
     match outcome {
-        Outcome::SetAside => Fate {
+        Outcome::SetAside => OutcomeNumbers {
             kind: ASIDE,
             minutes: 0,
         },
-        Outcome::Finished(minute) => Fate {
+        Outcome::Finished(minute) => OutcomeNumbers {
             kind: FINISHED,
             minutes: minute,
         },
-        Outcome::Unfinished(left) => Fate {
+        Outcome::Unfinished(left) => OutcomeNumbers {
             kind: UNFINISHED,
             minutes: left,
         },
     }
 }
 
-fn fates(run: WeekRun) -> [Fate; Week::MAX_BATCHES] {
-    let nothing = Fate {
+fn outcomes(run: WeekRun) -> [OutcomeNumbers; Week::MAX_BATCHES] {
+    let nothing = OutcomeNumbers {
         kind: ASIDE,
         minutes: 0,
     };
@@ -78,7 +78,7 @@ fn fates(run: WeekRun) -> [Fate; Week::MAX_BATCHES] {
     for i in 0..Week::MAX_BATCHES {
         let b = run.batches[i];
         let outcome = b.outcome;
-        all[i] = fate_of(outcome);
+        all[i] = numbers_of(outcome);
     }
     all
 }
@@ -93,7 +93,7 @@ fn run_week(w: Week, choice: [u8; PLACES], named: usize, size: usize) -> Answer
         refusal,
         idle: a.idle,
         changes: a.changes,
-        fates: fates(a),
+        outcomes: outcomes(a),
         log,
     }
 }

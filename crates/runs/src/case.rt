@@ -10,37 +10,37 @@ pub const PLACES: usize = Week::MAX_BATCHES + 1;
 pub const NONE: u16 = 65535;
 
 // A batch with the costs of its two recipes. Worths are 0: the run does not look at them.
-pub struct Place {
+pub struct CaseBatch {
     pub number: u16,
     pub arrival: u16,
     pub due: u16,
     pub cost: u16,
-    pub less: u16,
+    pub second_cost: u16,
 }
 
-// The list is the first `count` places, and the choice the first `named` recipes.
+// The list is the first `count` batches, and the choice the first `named` recipes.
 pub struct Case {
     pub opening: u16,
     pub closing: u16,
     pub count: u16,
     pub named: u16,
     pub size: u16,
-    pub places: [Place; PLACES],
+    pub batches: [CaseBatch; PLACES],
     pub recipes: [u8; PLACES],
 }
 
-fn batch(p: Place) -> Batch {
+fn batch(given: CaseBatch) -> Batch {
     let mut b = Batch::empty();
-    b.number = p.number;
-    b.arrival = p.arrival;
-    b.due = p.due;
-    b.count = if p.less == NONE { 1 } else { 2 };
+    b.number = given.number;
+    b.arrival = given.arrival;
+    b.due = given.due;
+    b.count = if given.second_cost == NONE { 1 } else { 2 };
     b.recipes[0] = Recipe {
-        cost: p.cost,
+        cost: given.cost,
         worth: 0,
     };
     b.recipes[1] = Recipe {
-        cost: p.less,
+        cost: given.second_cost,
         worth: 0,
     };
     b
@@ -51,7 +51,7 @@ pub fn week(c: Case) -> Week {
     let mut w = Week::empty(c.opening, c.closing);
     w.count = c.count as usize;
     for i in 0..Week::MAX_BATCHES {
-        w.batches[i] = batch(c.places[i]);
+        w.batches[i] = batch(c.batches[i]);
     }
     w
 }

@@ -1,62 +1,62 @@
 // Document 01's examples of the run, and the edges of its text and of its refusals.
 use crate::case::Case;
+use crate::case::CaseBatch;
 use crate::case::NONE;
 use crate::case::PLACES;
-use crate::case::Place;
+use crate::expected::between;
 use crate::judge::judge;
-use crate::reckon::between;
 use crate::show::show;
 use crate::tally::Tally;
 
 // A batch with one recipe.
-fn one(number: u16, arrival: u16, due: u16, cost: u16) -> Place {
-    Place {
+fn one(number: u16, arrival: u16, due: u16, cost: u16) -> CaseBatch {
+    CaseBatch {
         number,
         arrival,
         due,
         cost,
-        less: NONE,
+        second_cost: NONE,
     }
 }
 
 // Two batches, recipe 1 of each, and a log with a byte past the week.
-fn pair(opening: u16, closing: u16, first: Place, second: Place) -> Case {
+fn pair(opening: u16, closing: u16, first: CaseBatch, second: CaseBatch) -> Case {
     let mut c = Case {
         opening,
         closing,
         count: 2,
         named: 2,
         size: between(opening, closing) + 1,
-        places: [second; PLACES],
+        batches: [second; PLACES],
         recipes: [1; PLACES],
     };
-    c.places[0] = first;
+    c.batches[0] = first;
     c
 }
 
 // D: case W with its plan.
 fn case_w() -> Case {
-    let seven = Place {
+    let seven = CaseBatch {
         number: 7,
         arrival: 0,
         due: 40,
         cost: 30,
-        less: 10,
+        second_cost: 10,
     };
-    let eight = Place {
+    let eight = CaseBatch {
         number: 8,
         arrival: 20,
         due: 60,
         cost: 30,
-        less: 0,
+        second_cost: 0,
     };
     let mut c = pair(0, 100, seven, eight);
-    c.places[2] = Place {
+    c.batches[2] = CaseBatch {
         number: 9,
         arrival: 0,
         due: 100,
         cost: 50,
-        less: 20,
+        second_cost: 20,
     };
     c.recipes[0] = 2;
     c.count = 3;
@@ -68,7 +68,7 @@ fn case_j() -> Case {
     pair(0, 10, one(1, 5, 9, 4), one(2, 0, 10, 5))
 }
 
-// D and J against the second reckoning, every byte of the log included.
+// D and J against the expected answers, every byte of the log included.
 pub fn judge_both() -> Tally {
     judge(judge(Tally::empty(), case_w()), case_j())
 }
@@ -80,12 +80,12 @@ fn late() -> Case {
 
 // The first batch is set aside.
 fn aside() -> Case {
-    let first = Place {
+    let first = CaseBatch {
         number: 1,
         arrival: 0,
         due: 3,
         cost: 2,
-        less: 0,
+        second_cost: 0,
     };
     let mut c = pair(0, 4, first, one(2, 1, 4, 2));
     c.recipes[0] = 2;

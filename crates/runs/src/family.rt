@@ -1,7 +1,7 @@
 // All lists of two batches in the week of 1 to 6, where a batch with its recipe is one of 144.
 use crate::case::Case;
+use crate::case::CaseBatch;
 use crate::case::PLACES;
-use crate::case::Place;
 use crate::judge::judge;
 use crate::tally::Tally;
 ghost use Prim.Native.Nat.{_+_, _≤_};
@@ -22,14 +22,14 @@ fn due_of(after: u16, kind: u16) -> u16
 }
 
 // Arrival 0 to 5, 1 to 6 minutes, and half of them.
-fn place_of(number: u16, due: u16, kind: u16) -> Place {
+fn batch_of(number: u16, due: u16, kind: u16) -> CaseBatch {
     let cost = 1 + kind / 6 % 6;
-    Place {
+    CaseBatch {
         number,
         arrival: kind % 6,
         due,
         cost,
-        less: cost / 2,
+        second_cost: cost / 2,
     }
 }
 
@@ -46,10 +46,10 @@ fn case_of(first: u16, second: u16) -> Case {
         count: 2,
         named: 2,
         size: 6,
-        places: [place_of(9, due, first); PLACES],
+        batches: [batch_of(9, due, first); PLACES],
         recipes: [recipe(first); PLACES],
     };
-    c.places[1] = place_of(8, due_of(due, second), second);
+    c.batches[1] = batch_of(8, due_of(due, second), second);
     c.recipes[1] = recipe(second);
     c
 }

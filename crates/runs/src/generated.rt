@@ -1,8 +1,8 @@
 // Generated weeks, of up to 16 batches and mostly of up to 48 minutes, with a choice and a log. Their lists are well formed.
 use crate::case::Case;
+use crate::case::CaseBatch;
 use crate::case::NONE;
 use crate::case::PLACES;
-use crate::case::Place;
 use crate::chance::below;
 use crate::judge::judge;
 use crate::tally::Tally;
@@ -104,16 +104,16 @@ fn recipe(week: u16, place: u16) -> u8 {
 }
 
 // Its number is no position.
-fn place_of(week: u16, place: u16, due: u16, closing: u16) -> Place
+fn batch_of(week: u16, place: u16, due: u16, closing: u16) -> CaseBatch
     requires { ⌜ place ≤ maxBatches + 1 ⌝ }
 {
     let first = cost(week, place);
-    Place {
+    CaseBatch {
         number: 40 - place,
         arrival: arrival(week, place, due, closing),
         due,
         cost: first,
-        less: second(week, place, first),
+        second_cost: second(week, place, first),
     }
 }
 
@@ -135,7 +135,7 @@ fn size(week: u16) -> u16 {
     span(week) + below(week, 0, 7, 4)
 }
 
-// The case before its places.
+// The case before its batches.
 fn head(week: u16) -> Case {
     let opening = opening(week);
     let closing = opening + span(week);
@@ -145,7 +145,7 @@ fn head(week: u16) -> Case {
         count: batches(week),
         named: named(week),
         size: size(week),
-        places: [place_of(week, 0, 1, closing); PLACES],
+        batches: [batch_of(week, 0, 1, closing); PLACES],
         recipes: [0; PLACES],
     }
 }
@@ -155,7 +155,7 @@ fn case_of(week: u16) -> Case {
     let mut due = first(week);
     for i in 0..(PLACES as u16) {
         due = later(due, below(week, i + 1, 6, span(week) / 4 + 2));
-        c.places[i as usize] = place_of(week, i + 1, due, c.closing);
+        c.batches[i as usize] = batch_of(week, i + 1, due, c.closing);
         c.recipes[i as usize] = recipe(week, i + 1);
     }
     c

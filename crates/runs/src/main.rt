@@ -1,14 +1,14 @@
-// Run, log included: on examples, and against a second reckoning over all weeks of a small family and over generated ones. stdout
-// has each line as document 01 and docs/DECISIONS.md say it.
+// Run, log included: on examples, and against answers worked out another way, over all weeks of a small family and over generated
+// ones. stdout has each line as document 01 and docs/DECISIONS.md say it.
 mod answer;
 mod case;
 mod chance;
 mod examples;
+mod expected;
 mod family;
 mod generated;
 mod judge;
 mod log;
-mod reckon;
 mod show;
 mod tally;
 

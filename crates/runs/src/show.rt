@@ -2,8 +2,8 @@
 // bytes of a short log.
 use crate::answer::Answer;
 use crate::answer::FINISHED;
-use crate::answer::Fate;
 use crate::answer::LOG;
+use crate::answer::OutcomeNumbers;
 use crate::answer::UNFINISHED;
 use crate::answer::run_of;
 use crate::case::Case;
@@ -26,20 +26,20 @@ fn show_refusal(r: Refusal) {
 }
 
 // `-` is set aside, `f` the minute at which a batch is finished, `u` the minutes left of one that is not.
-fn show_fate(f: Fate) {
-    let kind = f.kind;
+fn show_outcome(o: OutcomeNumbers) {
+    let kind = o.kind;
     match kind {
-        FINISHED => show_count(b" f", f.minutes as u64),
-        UNFINISHED => show_count(b" u", f.minutes as u64),
+        FINISHED => show_count(b" f", o.minutes as u64),
+        UNFINISHED => show_count(b" u", o.minutes as u64),
         _ => {
             io::write_all(STDOUT_FILENO, b" -");
         }
     }
 }
 
-fn show_fates(a: Answer) {
+fn show_outcomes(a: Answer) {
     for i in 0..Week::MAX_BATCHES {
-        show_fate(a.fates[i]);
+        show_outcome(a.outcomes[i]);
     }
 }
 
@@ -63,7 +63,7 @@ pub fn show(name: &[u8], c: Case) {
     show_refusal(r);
     show_count(b" idle ", a.idle as u64);
     show_count(b" changes ", a.changes as u64);
-    show_fates(a);
+    show_outcomes(a);
     io::write_all(STDOUT_FILENO, b" log");
     let log = a.log;
     show_log(log, c.size);

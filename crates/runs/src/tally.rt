@@ -1,8 +1,8 @@
-// How many cases had which answer, what the accepted ones were answered, and how many differed from the second reckoning.
+// How many cases had which answer, what the accepted ones were answered, and how many differed from the expected answer.
 use crate::answer::ASIDE;
 use crate::answer::Answer;
 use crate::answer::FINISHED;
-use crate::answer::Fate;
+use crate::answer::OutcomeNumbers;
 use crate::answer::UNFINISHED;
 use crate::show::show_count;
 use libc::STDOUT_FILENO;
@@ -53,19 +53,19 @@ impl Tally {
         self
     }
 
-    fn with_fate(mut self, f: Fate) -> Tally {
-        self.finished = more(self.finished, f.kind == FINISHED);
-        self.unfinished = more(self.unfinished, f.kind == UNFINISHED);
-        self.aside = more(self.aside, f.kind == ASIDE);
+    fn with_outcome(mut self, o: OutcomeNumbers) -> Tally {
+        self.finished = more(self.finished, o.kind == FINISHED);
+        self.unfinished = more(self.unfinished, o.kind == UNFINISHED);
+        self.aside = more(self.aside, o.kind == ASIDE);
         self
     }
 
     // With the batches of an accepted case.
-    pub fn with_fates(self, a: Answer, count: u16) -> Tally {
+    pub fn with_outcomes(self, a: Answer, count: u16) -> Tally {
         let mut t = self;
         for i in 0..Week::MAX_BATCHES {
             if i < (count as usize) {
-                t = t.with_fate(a.fates[i]);
+                t = t.with_outcome(a.outcomes[i]);
             }
         }
         t

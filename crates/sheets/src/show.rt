@@ -1,4 +1,4 @@
-// One line for a sheet: the refusal's three numbers, the opening, the close and the number of batches; then, after a stroke each,
+// One line for a sheet: the refusal's three numbers, the opening, the close and the number of batches; then, after a slash each,
 // the batches, with number, arrival, due minute, number of recipes, and the cost and worth of each.
 use libc::STDOUT_FILENO;
 use sheet::read::read;

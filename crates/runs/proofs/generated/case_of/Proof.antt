@@ -1,4 +1,4 @@
--- `case_of` is safe and ends: it writes each place once.
+-- `case_of` is safe and ends: it writes each batch once.
 use borrow.Author.Needs.{needs}
 use Prim.Native.Nat.{_≤_, _-_}
 use Rattle.runs.proofs.generated.case_of.Statement.{statement}
@@ -34,11 +34,11 @@ below-requires c κs = search needs
 later-requires : tie.Need-later-requires Inv-loop μ-loop
 later-requires c κs = search needs
 
-add-place-of : tie.Need-add-place-of Inv-loop μ-loop
-add-place-of c = search needs
+add-batch-of : tie.Need-add-batch-of Inv-loop μ-loop
+add-batch-of c = search needs
 
-place-of-requires : tie.Need-place-of-requires Inv-loop μ-loop
-place-of-requires c κs = search needs
+batch-of-requires : tie.Need-batch-of-requires Inv-loop μ-loop
+batch-of-requires c κs = search needs
 
 cast-t13 : tie.Need-cast-t13 Inv-loop μ-loop
 cast-t13 c = search needs
@@ -87,8 +87,8 @@ case-of-spec =
     add-below-2
     below-requires
     later-requires
-    add-place-of
-    place-of-requires
+    add-batch-of
+    batch-of-requires
     cast-t13
     mul-t14
     element-set-from-c

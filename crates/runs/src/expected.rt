@@ -1,14 +1,15 @@
-// The run without its minutes one by one. In every minute the first batch in list order goes before the others; so each batch, in
-// list order, takes the first minutes that the ones before it left free, from its ready minute to the close.
+// The expected answer, worked out without going minute by minute. In every minute the first batch in list order goes before the
+// others; so each batch, in list order, takes the first minutes that the ones before it left free, from its ready minute to the
+// close.
 use crate::answer::ASIDE;
 use crate::answer::Answer;
 use crate::answer::FINISHED;
-use crate::answer::Fate;
 use crate::answer::LOG;
+use crate::answer::OutcomeNumbers;
 use crate::answer::UNFINISHED;
 use crate::case::Case;
+use crate::case::CaseBatch;
 use crate::case::NONE;
-use crate::case::Place;
 use crate::log::Taken;
 use crate::log::close;
 use crate::log::take;
@@ -29,14 +30,14 @@ pub fn between(from: u16, to: u16) -> u16
 }
 
 // Whether a batch has recipe k.
-fn has(p: Place, k: u8) -> bool {
-    k == 1 || k == 2 && p.less != NONE
+fn has(b: CaseBatch, k: u8) -> bool {
+    k == 1 || k == 2 && b.second_cost != NONE
 }
 
 // The first position whose recipe its batch has not got, or 0.
 fn unnamed(c: Case) -> usize {
     for i in 0..Week::MAX_BATCHES {
-        if i < (c.count as usize) && !has(c.places[i], c.recipes[i]) {
+        if i < (c.count as usize) && !has(c.batches[i], c.recipes[i]) {
             return i + 1;
         }
     }
@@ -44,37 +45,37 @@ fn unnamed(c: Case) -> usize {
 }
 
 // The minutes of recipe k, of two.
-fn cost(p: Place, k: u8) -> u16 {
-    if k == 1 { p.cost } else { p.less }
+fn cost(b: CaseBatch, k: u8) -> u16 {
+    if k == 1 { b.cost } else { b.second_cost }
 }
 
 // Of a batch that needed some minutes and took these.
-fn fate_of(needed: u16, opening: u16, taken: Taken) -> Fate {
+fn outcome_of(needed: u16, opening: u16, taken: Taken) -> OutcomeNumbers {
     if needed == 0 {
-        return Fate {
+        return OutcomeNumbers {
             kind: ASIDE,
             minutes: 0,
         };
     }
     if taken.count < needed {
-        return Fate {
+        return OutcomeNumbers {
             kind: UNFINISHED,
             minutes: needed - taken.count,
         };
     }
-    Fate {
+    OutcomeNumbers {
         kind: FINISHED,
         minutes: wrapping_add_u16(opening, taken.end),
     }
 }
 
 // The batch of index i takes its minutes.
-fn read(c: Case, i: usize, log: &mut [u8; LOG]) -> Fate
+fn read(c: Case, i: usize, log: &mut [u8; LOG]) -> OutcomeNumbers
     requires { ⌜ i < maxBatches ⌝ }
 {
-    let p = c.places[i];
-    let needed = cost(p, c.recipes[i]);
-    let ready = between(c.opening, p.arrival);
+    let b = c.batches[i];
+    let needed = cost(b, c.recipes[i]);
+    let ready = between(c.opening, b.arrival);
     let taken = take(
         log,
         ready,
@@ -82,7 +83,7 @@ fn read(c: Case, i: usize, log: &mut [u8; LOG]) -> Fate
         needed,
         (i + 1) as u8,
     );
-    fate_of(needed, c.opening, taken)
+    outcome_of(needed, c.opening, taken)
 }
 
 // The answer to a case that nothing refuses.
@@ -91,7 +92,7 @@ fn accepted(c: Case) -> Answer {
     let mut log = a.log;
     for i in 0..Week::MAX_BATCHES {
         if i < (c.count as usize) {
-            a.fates[i] = read(c, i, &mut log);
+            a.outcomes[i] = read(c, i, &mut log);
         }
     }
     let closed = close(&mut log, between(c.opening, c.closing));
@@ -102,7 +103,7 @@ fn accepted(c: Case) -> Answer {
 }
 
 // The answer to a case whose list is well formed: 13, then 12, then the run.
-pub fn reckon(c: Case) -> Answer {
+pub fn expected(c: Case) -> Answer {
     if c.named != c.count {
         return Answer::bare(Refusal::at(13, 0, 0));
     }

@@ -1,8 +1,8 @@
 -- `judge_all` is safe and ends: it goes through the weeks once.
 use borrow.Author.Needs.{needs}
 use Prim.Native.Nat.{_≤_, _-_}
-use Rattle.compare.proofs.draw.judge_all.Statement.{statement}
-use Rattle.compare.proofs.draw.judge_all.Tie as tie
+use Rattle.compare.proofs.generated.judge_all.Statement.{statement}
+use Rattle.compare.proofs.generated.judge_all.Tie as tie
 
 abbrev Inv-loop : tie.InvT-loop
 Inv-loop tally₀ number₀ tally number = number ≤ 5000

@@ -1,8 +1,8 @@
 -- `total` is safe and ends: it adds up at most 16 worths.
 use borrow.Author.Needs.{needs}
 use Prim.Native.Nat.{_≤_, _*_, _-_}
-use Rattle.compare.proofs.every.total.Statement.{statement}
-use Rattle.compare.proofs.every.total.Tie as tie
+use Rattle.compare.proofs.every_choice.total.Statement.{statement}
+use Rattle.compare.proofs.every_choice.total.Tie as tie
 
 abbrev Inv-loop : tie.InvT-loop
 Inv-loop w recipes sum₀ i₀ sum i = (i ≤ 16) × (sum ≤ 65535 * i)

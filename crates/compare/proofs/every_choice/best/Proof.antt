@@ -1,8 +1,8 @@
 -- `best` is safe and ends: it tries 1000 choices at most.
 use borrow.Author.Needs.{needs}
 use Prim.Native.Nat.{_≤_, _-_}
-use Rattle.compare.proofs.every.best.Statement.{statement}
-use Rattle.compare.proofs.every.best.Tie as tie
+use Rattle.compare.proofs.every_choice.best.Statement.{statement}
+use Rattle.compare.proofs.every_choice.best.Tie as tie
 
 abbrev Inv-loop : tie.InvT-loop
 Inv-loop w n x best₀ c₀ best c = c ≤ 1000

@@ -72,7 +72,7 @@ fn with_batches(week: Week, seed: usize) -> Week {
     w.count = n;
     let mut due = 1;
     for i in 0..n {
-        // Off the numbers that the batch before has drawn.
+        // Off the numbers that the batch before was made from.
         s = next(s + 7919);
         due += below(next(s), 5);
         w.batches[i] = batch(i as u16 + 1, due, s);

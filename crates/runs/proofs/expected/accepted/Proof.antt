@@ -1,8 +1,8 @@
 -- `accepted` is safe and ends: it goes through the places once.
 use borrow.Author.Needs.{needs}
 use Prim.Native.Nat.{_≤_, _-_}
-use Rattle.runs.proofs.reckon.accepted.Statement.{statement}
-use Rattle.runs.proofs.reckon.accepted.Tie as tie
+use Rattle.runs.proofs.expected.accepted.Statement.{statement}
+use Rattle.runs.proofs.expected.accepted.Tie as tie
 
 abbrev Inv-loop : tie.InvT-loop
 Inv-loop c a₀ log₀ i₀ a log i = i ≤ 16

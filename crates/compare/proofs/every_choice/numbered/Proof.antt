@@ -1,8 +1,8 @@
 -- `numbered` is safe and ends: it goes through the batches once.
 use borrow.Author.Needs.{needs}
 use Prim.Native.Nat.{_≤_, _-_}
-use Rattle.compare.proofs.every.numbered.Statement.{statement}
-use Rattle.compare.proofs.every.numbered.Tie as tie
+use Rattle.compare.proofs.every_choice.numbered.Statement.{statement}
+use Rattle.compare.proofs.every_choice.numbered.Tie as tie
 
 abbrev Inv-loop : tie.InvT-loop
 Inv-loop n c w choice₀ rest₀ i₀ choice rest i = i ≤ 16

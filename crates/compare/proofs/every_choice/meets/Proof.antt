@@ -1,8 +1,8 @@
 -- `meets` is safe and ends: it goes through the batches once.
 use borrow.Author.Needs.{needs}
 use Prim.Native.Nat.{_≤_, _-_}
-use Rattle.compare.proofs.every.meets.Statement.{statement}
-use Rattle.compare.proofs.every.meets.Tie as tie
+use Rattle.compare.proofs.every_choice.meets.Statement.{statement}
+use Rattle.compare.proofs.every_choice.meets.Tie as tie
 
 abbrev Inv-loop : tie.InvT-loop
 Inv-loop x w recipes bound₀ back₀ bound back = (1 ≤ back) × (back ≤ 17)

@@ -1,8 +1,8 @@
 -- `with_recipes` is safe and ends: it adds up to three recipes.
 use borrow.Author.Needs.{needs}
 use Prim.Native.Nat.{_≤_, _-_}
-use Rattle.compare.proofs.draw.with_recipes.Statement.{statement}
-use Rattle.compare.proofs.draw.with_recipes.Tie as tie
+use Rattle.compare.proofs.generated.with_recipes.Statement.{statement}
+use Rattle.compare.proofs.generated.with_recipes.Tie as tie
 
 abbrev Inv-loop : tie.InvT-loop
 Inv-loop seed b₀ s₀ n cost₀ k₀ b s cost k = k ≤ n

@@ -1,8 +1,8 @@
--- `fates` is safe and ends: it goes through the places once.
+-- `outcomes` is safe and ends: it goes through the places once.
 use borrow.Author.Needs.{needs}
 use Prim.Native.Nat.{_≤_, _-_}
-use Rattle.runs.proofs.answer.fates.Statement.{statement}
-use Rattle.runs.proofs.answer.fates.Tie as tie
+use Rattle.runs.proofs.answer.outcomes.Statement.{statement}
+use Rattle.runs.proofs.answer.outcomes.Tie as tie
 
 abbrev Inv-loop : tie.InvT-loop
 Inv-loop run all₀ i₀ all i = i ≤ 16
@@ -19,8 +19,8 @@ mul-b c = search needs
 element-copy-out-b : tie.Need-element-copy-out-b Inv-loop μ-loop
 element-copy-out-b c = search needs
 
-fate-of-requires : tie.Need-fate-of-requires Inv-loop μ-loop
-fate-of-requires c κs = search needs
+numbers-of-requires : tie.Need-numbers-of-requires Inv-loop μ-loop
+numbers-of-requires c κs = search needs
 
 mul-all : tie.Need-mul-all Inv-loop μ-loop
 mul-all c = search needs
@@ -40,8 +40,8 @@ loop-again c = search needs
 returns : tie.Need-returns Inv-loop μ-loop
 returns c = search needs
 
-pub fates-spec : {M : Type 1} → statement M
-fates-spec =
+pub outcomes-spec : {M : Type 1} → statement M
+outcomes-spec =
     tie.close
     (tie.spec
     Inv-loop
@@ -49,7 +49,7 @@ fates-spec =
     loop-holds
     mul-b
     element-copy-out-b
-    fate-of-requires
+    numbers-of-requires
     mul-all
     array-set-from-all
     add-i

@@ -1,8 +1,8 @@
 -- `unnamed` is safe and ends: it goes through the choice once.
 use borrow.Author.Needs.{needs}
 use Prim.Native.Nat.{_≤_, _-_}
-use Rattle.runs.proofs.reckon.unnamed.Statement.{statement}
-use Rattle.runs.proofs.reckon.unnamed.Tie as tie
+use Rattle.runs.proofs.expected.unnamed.Statement.{statement}
+use Rattle.runs.proofs.expected.unnamed.Tie as tie
 
 abbrev Inv-loop : tie.InvT-loop
 Inv-loop c i₀ i = i ≤ 16

@@ -1,8 +1,8 @@
--- `same_fates` is safe and ends: it goes through the places once.
+-- `same_outcomes` is safe and ends: it goes through the places once.
 use borrow.Author.Needs.{needs}
 use Prim.Native.Nat.{_≤_, _-_}
-use Rattle.runs.proofs.judge.same_fates.Statement.{statement}
-use Rattle.runs.proofs.judge.same_fates.Tie as tie
+use Rattle.runs.proofs.judge.same_outcomes.Statement.{statement}
+use Rattle.runs.proofs.judge.same_outcomes.Tie as tie
 
 abbrev Inv-loop : tie.InvT-loop
 Inv-loop a b i₀ i = i ≤ 16
@@ -13,17 +13,17 @@ abbrev μ-loop : tie.MeasureT-loop
 loop-holds : tie.Need-loop-holds Inv-loop μ-loop
 loop-holds c = search needs
 
-mul-f : tie.Need-mul-f Inv-loop μ-loop
-mul-f c = search needs
+mul-o : tie.Need-mul-o Inv-loop μ-loop
+mul-o c = search needs
 
-element-copy-out-f : tie.Need-element-copy-out-f Inv-loop μ-loop
-element-copy-out-f c = search needs
+element-copy-out-o : tie.Need-element-copy-out-o Inv-loop μ-loop
+element-copy-out-o c = search needs
 
-mul-g : tie.Need-mul-g Inv-loop μ-loop
-mul-g c = search needs
+mul-p : tie.Need-mul-p Inv-loop μ-loop
+mul-p c = search needs
 
-element-copy-out-g : tie.Need-element-copy-out-g Inv-loop μ-loop
-element-copy-out-g c = search needs
+element-copy-out-p : tie.Need-element-copy-out-p Inv-loop μ-loop
+element-copy-out-p c = search needs
 
 returns : tie.Need-returns Inv-loop μ-loop
 returns c = search needs
@@ -40,17 +40,17 @@ loop-again c = search needs
 returns-2 : tie.Need-returns-2 Inv-loop μ-loop
 returns-2 c = search needs
 
-pub same-fates-spec : {M : Type 1} → statement M
-same-fates-spec =
+pub same-outcomes-spec : {M : Type 1} → statement M
+same-outcomes-spec =
     tie.close
     (tie.spec
     Inv-loop
     μ-loop
     loop-holds
-    mul-f
-    element-copy-out-f
-    mul-g
-    element-copy-out-g
+    mul-o
+    element-copy-out-o
+    mul-p
+    element-copy-out-p
     returns
     add-i
     loop-less

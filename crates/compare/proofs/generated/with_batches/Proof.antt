@@ -1,8 +1,8 @@
 -- `with_batches` is safe and ends: it adds up to four batches.
 use borrow.Author.Needs.{needs}
 use Prim.Native.Nat.{_≤_, _<_, _+_, _*_, _-_}
-use Rattle.compare.proofs.draw.with_batches.Statement.{statement}
-use Rattle.compare.proofs.draw.with_batches.Tie as tie
+use Rattle.compare.proofs.generated.with_batches.Statement.{statement}
+use Rattle.compare.proofs.generated.with_batches.Tie as tie
 
 abbrev Inv-loop : tie.InvT-loop
 Inv-loop seed w₀ s₀ n due₀ i₀ w s due i = (s < 2147483648) × (1 ≤ due) × (due ≤ 1 + 4 * i)
