@@ -1,13 +1,14 @@
--- What a minute leaves of each job: one minute less of the job that is read, as much as before of every other.
+-- What a minute leaves of each job: one minute less of the job that is read, as much as before of every other. And a job gets no
+-- minute before its ready minute.
 use Prim.Native.Nat.{ℕ, zero, suc, _+_, _≤_, _<_}
 use native.Mathlib.Decide.{ℕ-discrete}
 use native.Mathlib.Omega.{arith}
-use mathlib.Core.Path.{_≡_, refl, subst}
+use mathlib.Core.Path.{_≡_, refl, ap, subst, _∙_}
 use mathlib.Core.List.{List}
 use lib.ListN.{getD, take}
 use borrow.Author.Tests.{eq-eqb, ne-eqb}
 use Rattle.edf.specs.Run.{entries, minutesLeft, logOf, Reads}
-use Rattle.edf.proofs.Open.{reads}
+use Rattle.edf.proofs.Pending.{reads}
 use Rattle.edf.proofs.Logs.{logTo, leftAt, readAt, take-log, entry-log, entries-next}
 
 module _ (n : ℕ) (ready minutes : ℕ → ℕ) (t : ℕ) where
@@ -48,6 +49,13 @@ module _ (n : ℕ) (ready minutes : ℕ → ℕ) (t : ℕ) where
   pub left-falls : (d j : ℕ) → left (suc d) j ≤ left d j
   unfolding minutesLeft
   left-falls d j = omega (arith, entries-next n ready minutes t d j)
+
+  -- the first d minutes, where they all come before the ready minute of a job, have no entry of it
+  pub none-before : (d j : ℕ) → 1 ≤ j → t + d ≤ ready j → entries j (log d) ≡ 0
+  unfolding logOf entries
+  none-before zero j low early = refl
+  none-before (suc d) j low early =
+      entries-other d j (λ e. omega (arith, ap ready e, reads-at d .arrived (omega arith))) ∙ none-before d j low (omega arith)
 
   -- entry d of a log, by the entries before it
   pub reads-log : (d w : ℕ) → d < w → Reads ready (minutesLeft minutes (take d (log w))) (t + d) n (getD (log w) d 0)

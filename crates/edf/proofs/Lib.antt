@@ -1,12 +1,13 @@
-pub mod Open
+pub mod Pending
 pub mod Logs
 pub mod RunLoop
 pub mod Counts
+pub mod Changes
 pub mod Scans
 pub mod Workloads
 pub mod Left
-pub mod Sums
 pub mod RunTheorem
-pub mod Stretches
+pub mod StretchEnds
 pub mod InTime
 pub mod Finished
+pub mod OutcomeNumbers

@@ -8,8 +8,8 @@ use mathlib.Core.List.{List, [], _∷_, _++_}
 use lib.ListN.{length, getD, take, drop, length-append, take-append-drop}
 use lib.Dec.{eqb}
 use lib.Seq.{getD-at, getD-take, take-append-le, take-all}
-use Rattle.edf.specs.Run.{entries, minutesLeft, firstOpen, logOf}
-use Rattle.edf.proofs.Open.{open-same}
+use Rattle.edf.specs.Run.{entries, minutesLeft, firstPending, logOf}
+use Rattle.edf.proofs.Pending.{pending-same}
 
 entries-append : (j : ℕ) (xs ys : List ℕ) → entries j (xs ++ ys) ≡ entries j xs + entries j ys
 unfolding entries
@@ -30,7 +30,7 @@ module _ (n : ℕ) (ready minutes : ℕ → ℕ) (t : ℕ) where
   leftAt d j = minutesLeft minutes (logTo d) j
 
   abbrev pub readAt : ℕ → ℕ
-  readAt d = firstOpen ready (leftAt d) (t + d) n
+  readAt d = firstPending ready (leftAt d) (t + d) n
 
   pub log-next : (d : ℕ) → logTo (suc d) ≡ logTo d ++ (readAt d ∷ [])
   unfolding logOf
@@ -73,4 +73,4 @@ module _ {n : ℕ} {ready minutes ready′ minutes′ : ℕ → ℕ}
     log-same t (suc w) =
         rw (log-same t w)
         (ap (λ (k : ℕ). logOf n ready′ minutes′ t w ++ (k ∷ []))
-        (open-same same-ready (λ j low high. rw (same-minutes j low high)) (t + w)))
+        (pending-same same-ready (λ j low high. rw (same-minutes j low high)) (t + w)))

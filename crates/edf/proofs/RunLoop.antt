@@ -9,10 +9,11 @@ use lib.ListN.{length, getD, set, take, length-set}
 use lib.Dec.{eqb}
 use lib.Seq.{take-all, take-suc-set}
 use borrow.Author.Tests.{eq-eqb, ne-eqb}
-use Rattle.jobs.specs.Model.{maxJobs, atPosition}
-use Rattle.jobs.proofs.Fills.{set-each}
+use Rattle.arrays.specs.Position.{atPosition}
+use Rattle.arrays.proofs.Stores.{set-each}
+use Rattle.jobs.specs.Model.{maxJobs}
 use Rattle.edf.specs.Run.{entries, minutesLeft, logOf, Reads}
-use Rattle.edf.proofs.Open.{reads-one, open-same}
+use Rattle.edf.proofs.Pending.{reads-one, pending-same}
 use Rattle.edf.proofs.Logs.{logTo, leftAt, readAt, log-next, entries-next}
 
 -- the arrays of the minutes left before and after a minute that reads job k; 0 is idle
@@ -60,7 +61,7 @@ module _ {n : ℕ} {ready minutes : ℕ → ℕ} {t w : ℕ} {log left : List �
   -- the job that is found is the one that the log has next
   found-read : {k : ℕ} → Reads ready (atPosition 0 left) (t + m) n k → k ≡ readAt n ready minutes t m
   found-read found =
-      reads-one ready (atPosition 0 left) (t + m) found ∙ open-same (λ j low high. refl) (λ j low high. h .remains j) (t + m)
+      reads-one ready (atPosition 0 left) (t + m) found ∙ pending-same (λ j low high. refl) (λ j low high. h .remains j) (t + m)
 
   pub running-step : m < w → {k : ℕ} → Reads ready (atPosition 0 left) (t + m) n k → {left′ : List ℕ} → Spent k left left′ →
       Running n ready minutes t w (set log m k) left′ (m + 1)

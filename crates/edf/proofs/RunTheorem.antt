@@ -4,21 +4,13 @@ use Prim.Native.Nat.{ℕ, zero, suc, _+_, _-_, _≤_, _<_}
 use native.Mathlib.Decide.{decLe}
 use native.Mathlib.Omega.{arith}
 use mathlib.Core.Path.{_≡_, ap}
-use mathlib.Core.Bool.{cond}
-use lib.Dec.{leb}
 use borrow.Author.Tests.{le-leb}
+use Rattle.arrays.specs.Sum.{sumTo}
+use Rattle.arrays.proofs.Sums.{sum-part, sum-le, sum-less}
 use Rattle.edf.specs.Run.{entries, logOf, minutesBefore}
-use Rattle.edf.proofs.Sums.{sumTo, sum-part, sum-le, sum-less}
+use Rattle.edf.specs.Needed.{neededFrom, demandFrom}
 use Rattle.edf.proofs.Logs.{leftAt, readAt, take-log}
 use Rattle.edf.proofs.Left.{reads-at, read-left, left-read, left-falls}
-
--- the minutes of job j if it is ready at minute m or later
-abbrev neededFrom : (ready minutes : ℕ → ℕ) → ℕ → ℕ → ℕ
-neededFrom ready minutes m j = cond (leb m (ready j)) (minutes j) 0
-
--- the minutes of jobs 1 to i that are ready at minute m or later
-unfoldable pub demandFrom : (ready minutes : ℕ → ℕ) → ℕ → ℕ → ℕ
-demandFrom ready minutes m i = sumTo (neededFrom ready minutes m) i
 
 module _
     (n : ℕ) (ready minutes : ℕ → ℕ) (t i e : ℕ)

@@ -3,9 +3,9 @@ use Prim.Native.Nat.{ℕ, _≤_}
 use mathlib.Core.Path.{_≡_, ap₂}
 use mathlib.Core.Bool.{Bool, false}
 use mathlib.Core.List.{List}
+use Rattle.arrays.proofs.Tabulates.{position-padded}
 use Rattle.jobs.specs.declared.model.JobList.{JobList}
 use Rattle.jobs.specs.Model.{maxJobs}
-use Rattle.jobs.proofs.Places.{position-padded}
 use Rattle.edf.specs.Run.{outcomeOf}
 use Rattle.edf.specs.Workload.{readyAt, minutesAt, asideAt, choiceLog, workloadOf, workLog, outcomeAt}
 use Rattle.edf.proofs.Logs.{log-same}

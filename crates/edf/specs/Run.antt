@@ -18,15 +18,15 @@ unfoldable pub minutesLeft : (minutes : ℕ → ℕ) → List ℕ → ℕ → �
 minutesLeft minutes log j = minutes j - entries j log
 
 -- the first of two numbers that is not 0
-abbrev pub orElse : ℕ → ℕ → ℕ
-orElse zero b = b
-orElse (suc a) b = suc a
+abbrev pub firstSome : ℕ → ℕ → ℕ
+firstSome zero b = b
+firstSome (suc a) b = suc a
 
 -- "the first batch in list order that has s at or before this minute and minutes left to read", of jobs 1 to i; 0 for none
-unfoldable pub firstOpen : (ready left : ℕ → ℕ) → ℕ → ℕ → ℕ
-firstOpen ready left m zero = 0
-firstOpen ready left m (suc i) =
-    orElse (firstOpen ready left m i) (cond (leb (ready (suc i)) m && ltb 0 (left (suc i))) (suc i) 0)
+unfoldable pub firstPending : (ready left : ℕ → ℕ) → ℕ → ℕ → ℕ
+firstPending ready left m zero = 0
+firstPending ready left m (suc i) =
+    firstSome (firstPending ready left m i) (cond (leb (ready (suc i)) m && ltb 0 (left (suc i))) (suc i) 0)
 
 -- the same of job k in parts, as a contract can promise it: it is one of jobs 1 to n, or 0; it has arrived and is not read to its
 -- end; and it is the first such
@@ -42,7 +42,7 @@ unfoldable pub logOf : (n : ℕ) (ready minutes : ℕ → ℕ) (t w : ℕ) → L
 logOf n ready minutes t zero = []
 logOf n ready minutes t (suc w) =
     logOf n ready minutes t w
-    ++ (firstOpen ready (minutesLeft minutes (logOf n ready minutes t w)) (t + w) n ∷ [])
+    ++ (firstPending ready (minutesLeft minutes (logOf n ready minutes t w)) (t + w) n ∷ [])
 
 -- 01, "The words of demand 3": "A batch gets the minutes from t to c − 1 whose log entry is its position. A minute is before a
 -- stretch ends if it is smaller than that end.": how many minutes before minute e a log that starts at minute t gives job j

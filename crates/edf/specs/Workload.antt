@@ -1,21 +1,21 @@
 -- What a choice gives the station to read, and its run. The choice is an array in list order; positions count from 1.
 use Prim.Native.Nat.{ℕ, suc}
-use mathlib.Core.Bool.{Bool, false, cond, not}
+use mathlib.Core.Bool.{Bool, false, not}
 use mathlib.Core.List.{List}
-use Rattle.jobs.specs.declared.model.Version.{Version}
+use Rattle.arrays.specs.Position.{atPosition}
+use Rattle.arrays.specs.Made.{tabulate, padded}
 use Rattle.jobs.specs.declared.model.JobList.{JobList}
-use Rattle.jobs.specs.Model.{maxJobs, noJob, atPosition, tabulate, padded, versionAt}
+use Rattle.jobs.specs.Model.{maxJobs, noJob, versionAt, minutesOf}
 use Rattle.edf.specs.declared.workload.Workload.{Workload}
 use Rattle.edf.specs.declared.outcome.Outcome.{Outcome}
 use Rattle.edf.specs.Run.{logOf, outcomeOf}
 
--- the minutes that the station has to read of a version: none if it is set aside
-abbrev pub minutesOf : Version → ℕ
-minutesOf v = cond (v .read) (v .cost) 0
-
--- the ready minute of position i
+-- the ready minute of position i, and its due minute
 abbrev pub readyAt : JobList → ℕ → ℕ
 readyAt list i = atPosition noJob (list .jobs) i .ready
+
+abbrev pub dueAt : JobList → ℕ → ℕ
+dueAt list i = atPosition noJob (list .jobs) i .due
 
 -- the minutes that a choice gives the station to read there
 abbrev pub minutesAt : JobList → List ℕ → ℕ → ℕ

@@ -4,8 +4,8 @@ use crate::log::up_to_last;
 ghost use mathlib.Core.Path.{_≡_};
 ghost use Prim.Native.Nat.{_+_, _≤_};
 ghost use lib.ListN.{length};
+ghost use Rattle.arrays.specs.Bits.{max16};
 ghost use Rattle.edf.specs.Run.{outcomeOf};
-ghost use Rattle.jobs.specs.Model.{max16};
 
 // Document 01: "For each batch the run answers one of: set aside; finished, with the minute after its last;
 // unfinished, with the minutes left."

@@ -4,13 +4,14 @@ use jobs::model::JobList;
 ghost use mathlib.Core.Path.{_≡_};
 ghost use Prim.Native.Nat.{_≤_};
 ghost use lib.ListN.{length};
-ghost use Rattle.jobs.specs.Model.{maxJobs, atPosition};
+ghost use Rattle.arrays.specs.Position.{atPosition};
+ghost use Rattle.jobs.specs.Model.{maxJobs};
 ghost use Rattle.edf.specs.Run.{Reads};
 ghost use Rattle.edf.specs.Workload.{workLog};
 ghost use Rattle.edf.specs.Contract.{Runnable};
 
 // The position of the first of `count` jobs that is ready in this minute and has minutes left, or 0.
-fn first_open(
+fn first_pending(
     count: usize,
     ready: [u16; JobList::MAX_JOBS],
     left: [u16; JobList::MAX_JOBS],
@@ -36,7 +37,7 @@ pub fn run(work: Workload, opening: u16, log: &mut [u8])
     let mut left = work.minutes;
     for m in 0..log.len() {
         let minute = opening + (m as u16);
-        let position = first_open(work.count, ready, left, minute);
+        let position = first_pending(work.count, ready, left, minute);
         log[m] = position as u8;
         if 0 < position {
             left[position - 1] -= 1;

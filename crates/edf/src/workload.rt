@@ -2,8 +2,9 @@
 use jobs::model::JobList;
 use jobs::model::Version;
 ghost use mathlib.Core.Path.{_≡_};
+ghost use Rattle.jobs.specs.Model.{minutesOf};
 ghost use Rattle.jobs.specs.Contract.{Names};
-ghost use Rattle.edf.specs.Workload.{minutesOf, workloadOf};
+ghost use Rattle.edf.specs.Workload.{workloadOf};
 
 // For each job, in list order, the minute from which the station can read it, its minutes to read, and whether it is set aside: a
 // job that has nothing to read need not be.

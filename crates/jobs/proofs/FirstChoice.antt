@@ -29,7 +29,8 @@ abbrev pub Answer : (List ℕ → Type 0) → (List ℕ → ℕ) → Option (Lis
 Answer In v none = (c : List ℕ) → In c → ⊥
 Answer In v (some ch) = First In v ch
 
-behind-le : (v : List ℕ → ℕ) (ch c : List ℕ) → Behind v ch c → v c ≤ v ch
+-- none behind it is of greater value
+pub behind-le : (v : List ℕ → ℕ) (ch c : List ℕ) → Behind v ch c → v c ≤ v ch
 behind-le v ch c (inl e) = omega (arith, ap v e)
 behind-le v ch c (inr (inl h)) = omega arith
 behind-le v ch c (inr (inr h)) = omega arith
@@ -41,7 +42,8 @@ answer-same In In′ v none from to h = λ c i. h c (from c i)
 answer-same In In′ v (some ch) from to h = record { inside = to ch (h .inside); over = λ c i. h .over c (from c i) }
 
 -- where there are no choices, the answer is none
-pub answer-none : (In : List ℕ → Type 0) (v : List ℕ → ℕ) (o : Option (List ℕ)) → Answer In v o → ((c : List ℕ) → In c → ⊥) → o ≡ none
+pub answer-none : (In : List ℕ → Type 0) (v : List ℕ → ℕ) (o : Option (List ℕ)) → Answer In v o →
+    ((c : List ℕ) → In c → ⊥) → o ≡ none
 answer-none In v none h empty = refl
 answer-none In v (some ch) h empty = absurd (empty ch (h .inside))
 
@@ -84,8 +86,8 @@ module _ (P Q : List ℕ → Type 0) (v : List ℕ → ℕ) (order : (c d : List
   greater-answer (some a) (some b) h k = cond-answer a b (ltb (v a) (v b)) refl h k
 
 -- a choice of the jobs that passes a test
-abbrev pub Passes : (List ℕ → Bool) → List Job → List ℕ → Type 0
-Passes p js c = Valid js c × (p c ≡ true)
+abbrev pub Candidate : (List ℕ → Bool) → List Job → List ℕ → Type 0
+Candidate p js c = Valid js c × (p c ≡ true)
 
 module _ (p : List ℕ → Bool) (v : List ℕ → ℕ) (js : List Job) where
   -- a choice that passes the test, by its version of the last job: one of R; version k; one of versions 1 to n
@@ -115,7 +117,7 @@ module _ (p : List ℕ → Bool) (v : List ℕ → ℕ) (js : List Job) where
   up-to-split n (m ∷ ms) i =
       ⊎-elim (λ e. inr (e, i .1, i .2)) (λ (l : m < suc n). inl ((i .0 .0, omega arith), i .1, i .2)) (eq-or-lt-of-le (i .0 .1))
 
-  by-rest : (k m : ℕ) (ms : List ℕ) → By k (m ∷ ms) → Passes (λ c. p (k ∷ c)) js ms
+  by-rest : (k m : ℕ) (ms : List ℕ) → By k (m ∷ ms) → Candidate (λ c. p (k ∷ c)) js ms
   by-rest k m ms i = (i .1, subst (λ (n : ℕ). p (n ∷ ms) ≡ true) (i .0) (i .2))
 
   put-over : (k : ℕ) (ch ms : List ℕ) → Behind (λ c. v (k ∷ c)) ch ms → Behind v (k ∷ ch) (k ∷ ms)
@@ -124,7 +126,7 @@ module _ (p : List ℕ → Bool) (v : List ℕ → ℕ) (js : List Job) where
   put-over k ch ms (inr (inr h)) = inr (inr (h .0, inr (refl, h .1)))
 
   -- version k put before an answer for the jobs before
-  map-answer : (k : ℕ) (o : Option (List ℕ)) → Answer (Passes (λ c. p (k ∷ c)) js) (λ c. v (k ∷ c)) o →
+  map-answer : (k : ℕ) (o : Option (List ℕ)) → Answer (Candidate (λ c. p (k ∷ c)) js) (λ c. v (k ∷ c)) o →
       Answer (By k) v (Option·map (λ (c : List ℕ). k ∷ c) o)
   map-answer k none h = elim [ [] ↦ λ i. i | m ∷ ms ↦ λ i. h ms (by-rest k m ms i) ]
   map-answer k (some ch) h =
@@ -138,7 +140,7 @@ module _ (p : List ℕ → Bool) (v : List ℕ → ℕ) (js : List Job) where
       }
 
   -- what holds of the jobs before, for any test and any value, gives each version, and versions 1 to n, of the last job
-  module _ (before : (q : List ℕ → Bool) (w : List ℕ → ℕ) → Answer (Passes q js) w (firstBest q w (choices js))) where
+  module _ (before : (q : List ℕ → Bool) (w : List ℕ → ℕ) → Answer (Candidate q js) w (firstBest q w (choices js))) where
     by-answer : (k : ℕ) → Answer (By k) v (firstBest p v (map (λ (c : List ℕ). k ∷ c) (choices js)))
     by-answer k =
         let q : List ℕ → Bool = λ c. p (k ∷ c) in
@@ -157,24 +159,24 @@ module _ (p : List ℕ → Bool) (v : List ℕ → ℕ) (js : List Job) where
         (greater-answer (UpTo n) (By (suc n)) v (up-to-order n) (firstBest p v lower) (firstBest p v top)
         (up-to-answer n) (by-answer (suc n))))
 
-  passes-led : (j : Job) (c : List ℕ) → Passes p (j ∷ js) c → UpTo (j .count) c
-  passes-led j [] i = i .0
-  passes-led j (m ∷ ms) i = ((i .0 .0, i .0 .1), i .0 .2, i .1)
+  candidate-led : (j : Job) (c : List ℕ) → Candidate p (j ∷ js) c → UpTo (j .count) c
+  candidate-led j [] i = i .0
+  candidate-led j (m ∷ ms) i = ((i .0 .0, i .0 .1), i .0 .2, i .1)
 
-  led-passes : (j : Job) (c : List ℕ) → UpTo (j .count) c → Passes p (j ∷ js) c
-  led-passes j [] i = absurd i
-  led-passes j (m ∷ ms) i = ((i .0 .0, i .0 .1, i .1), i .2)
+  led-candidate : (j : Job) (c : List ℕ) → UpTo (j .count) c → Candidate p (j ∷ js) c
+  led-candidate j [] i = absurd i
+  led-candidate j (m ∷ ms) i = ((i .0 .0, i .0 .1, i .1), i .2)
 
 -- of no jobs there is one choice, the empty one
-empty-answer : (p : List ℕ → Bool) (v : List ℕ → ℕ) (q : Bool) → p [] ≡ q → Answer (Passes p []) v (cond q (some []) none)
+empty-answer : (p : List ℕ → Bool) (v : List ℕ → ℕ) (q : Bool) → p [] ≡ q → Answer (Candidate p []) v (cond q (some []) none)
 empty-answer p v true e =
     record { inside = (tt, e); over = elim [ [] ↦ λ i. inl refl | k ∷ ks ↦ λ i. absurd (i .0) ] }
 empty-answer p v false e = elim [ [] ↦ λ i. false≢true (sym e ∙ i .1) | k ∷ ks ↦ λ i. i .0 ]
 
 -- the law
-pub first-answer : (js : List Job) (p : List ℕ → Bool) (v : List ℕ → ℕ) → Answer (Passes p js) v (firstBest p v (choices js))
+pub first-answer : (js : List Job) (p : List ℕ → Bool) (v : List ℕ → ℕ) → Answer (Candidate p js) v (firstBest p v (choices js))
 first-answer [] p v = rw (greater-none v) (empty-answer p v (p []) refl)
 first-answer (j ∷ js) p v =
-    answer-same (UpTo p v js (j .count)) (Passes p (j ∷ js)) v (firstBest p v (choices (j ∷ js)))
-    (passes-led p v js j) (led-passes p v js j)
+    answer-same (UpTo p v js (j .count)) (Candidate p (j ∷ js)) v (firstBest p v (choices (j ∷ js)))
+    (candidate-led p v js j) (led-candidate p v js j)
     (up-to-answer p v js (first-answer js) (j .count))

@@ -7,12 +7,12 @@ use mathlib.Core.Bool.{Bool, true, false, cond}
 use mathlib.Core.List.{List, [], _∷_}
 use mathlib.Core.Option.{Option, none, some}
 use lib.Dec.{ltb}
+use Rattle.arrays.proofs.Cases.{cond-both}
 use Rattle.jobs.specs.declared.model.Job.{Job}
 use Rattle.jobs.specs.Model.{versionOf}
 use Rattle.jobs.specs.Rule.{fits, nextBound}
 use Rattle.jobs.specs.Choice.{total}
 use Rattle.jobs.specs.Best.{greater, best, lastVersion, pick}
-use Rattle.jobs.proofs.Cases.{cond-both}
 use Rattle.jobs.proofs.Programme.{within, step, among, best-step}
 
 -- version k of job j over the choice ks of the jobs before it, under the bound x

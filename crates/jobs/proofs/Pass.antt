@@ -5,14 +5,16 @@ use mathlib.Core.Path.{_≡_, refl, sym, ap, subst, _∙_}
 use mathlib.Core.Bool.{true, false}
 use mathlib.Core.List.{List}
 use lib.ListN.{length, getD, set, replicate}
+use Rattle.arrays.specs.Position.{backward}
+use Rattle.arrays.proofs.Places.{length-backward, length-placed, placed-beyond, backward-placed, replicate-at}
+use Rattle.arrays.proofs.Stores.{Filled, filled-step, filled-all}
 use Rattle.jobs.specs.declared.model.Version.{Version}
 use Rattle.jobs.specs.declared.model.Job.{Job}
 use Rattle.jobs.specs.declared.rule.Stretch.{Stretch}
-use Rattle.jobs.specs.Model.{maxJobs, noJob, versionOf, backward}
+use Rattle.jobs.specs.Model.{maxJobs, noJob, versionOf}
 use Rattle.jobs.specs.Rule.{stretchOf, fits, nextBound, failing, stretches}
-use Rattle.jobs.specs.Contract.{noStretch, stretchesOf, stretched}
-use Rattle.jobs.proofs.Places.{length-backward, length-placed, placed-beyond, backward-placed, replicate-at}
-use Rattle.jobs.proofs.Fills.{Filled, filled-step, filled-all}
+use Rattle.jobs.specs.Stretches.{noStretch, stretchesOf}
+use Rattle.jobs.specs.Contract.{stretched}
 use Rattle.jobs.proofs.Rules.{length-stretches, stretched-meets, stretched-fails}
 
 -- the jobs and the choice are arrays of which the first n count
@@ -52,7 +54,8 @@ module _ (jobs : List Job) (choice : List ℕ) (close n : ℕ) where
         rest = placed-stretches;
         filled = record {
           size = sym (length-whole most);
-          done = λ k from. replicate-at maxJobs noStretch k ∙ sym (placed-beyond maxJobs noStretch all k (omega (arith, length-all)));
+          done = λ k from.
+              replicate-at maxJobs noStretch k ∙ sym (placed-beyond maxJobs noStretch all k (omega (arith, length-all)));
         };
       }
 
@@ -66,7 +69,8 @@ module _
       here = subst (λ (k : ℕ). Pass jobs choice close n array bound k) last h
 
       -- the version fits: s is its stretch
-      pub pass-step : n ≤ maxJobs → fits (getD jobs at noJob) v bound ≡ true → {s : Stretch} → s ≡ stretchOf (getD jobs at noJob) v bound →
+      pub pass-step : n ≤ maxJobs → fits (getD jobs at noJob) v bound ≡ true →
+          {s : Stretch} → s ≡ stretchOf (getD jobs at noJob) v bound →
           Pass jobs choice close n (set array at s) (s .start) at
       unfolding nextBound
       pass-step most fit {s} kept =
@@ -77,12 +81,14 @@ module _
             rest = cc (here .rest);
             filled =
                 filled-step noStretch (whole jobs choice close n) (λ k. suc at ≤ k) (λ k. at ≤ k) at array s
-                (omega (arith, length-whole jobs choice close n most, here .low)) (cc (here .rest)) (λ k q n. omega arith) (here .filled);
+                (omega (arith, length-whole jobs choice close n most, here .low)) (cc (here .rest)) (λ k q n. omega arith)
+                (here .filled);
           }
 
       -- it does not: the rule's answer is this position
       pub pass-fails : fits (getD jobs at noJob) v bound ≡ false →
-          record { failing = i; stretches = replicate maxJobs noStretch } ≡ stretched (backward noJob jobs n) close (backward 0 choice n)
+          record { failing = i; stretches = replicate maxJobs noStretch }
+          ≡ stretched (backward noJob jobs n) close (backward 0 choice n)
       pass-fails unfit =
           rw last (sym (stretched-fails _ _ _ at ((rw (← named, unfit) at (here .fails)) ∙ ap suc (length-backward noJob jobs at))))
 
@@ -91,4 +97,7 @@ module _
         record { failing = 0; stretches = array } ≡ stretched (backward noJob jobs n) close (backward 0 choice n)
     pass-end first =
         let end : Pass jobs choice close n array bound 0 = subst (λ (k : ℕ). Pass jobs choice close n array bound k) first h in
-        rw (stretched-meets _ _ _ (end .fails), filled-all noStretch (whole jobs choice close n) (λ k. 0 ≤ k) array (λ k l. omega arith) (end .filled))
+        rw (
+          stretched-meets _ _ _ (end .fails),
+          filled-all noStretch (whole jobs choice close n) (λ k. 0 ≤ k) array (λ k l. omega arith) (end .filled),
+        )

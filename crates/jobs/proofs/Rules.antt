@@ -13,7 +13,8 @@ use Rattle.jobs.specs.declared.model.Job.{Job}
 use Rattle.jobs.specs.Model.{maxJobs, versionOf}
 use Rattle.jobs.specs.Rule.{endOf, stretchOf, fits, nextBound, meets, failing, stretches}
 use Rattle.jobs.specs.Choice.{Valid}
-use Rattle.jobs.specs.Contract.{noStretch, stretchesOf, stretched}
+use Rattle.jobs.specs.Stretches.{noStretch, stretchesOf}
+use Rattle.jobs.specs.Contract.{stretched}
 
 -- a version that is read and fits: its minutes lie between the job's ready minute and the end of its stretch
 pub fits-read : (j : Job) (v : Version) (x : ℕ) → fits j v x ≡ true → v .read ≡ true → j .ready + v .cost ≤ endOf j x
@@ -47,7 +48,8 @@ end-in j v x = by-read (v .read) refl
     by-read false r = omega (arith, end-aside j v x r, bound-aside j v x r)
 
 -- a job that is ready at t or later and fits under a bound of t or later leaves a bound from t to that one
-pub bound-in : (j : Job) (v : Version) (x t : ℕ) → t ≤ j .ready → t ≤ x → fits j v x ≡ true → (t ≤ nextBound j v x) × (nextBound j v x ≤ x)
+pub bound-in : (j : Job) (v : Version) (x t : ℕ) → t ≤ j .ready → t ≤ x → fits j v x ≡ true →
+    (t ≤ nextBound j v x) × (nextBound j v x ≤ x)
 bound-in j v x t ready from fit = by-read (v .read) refl
   where
     by-read : (q : Bool) → v .read ≡ q → (t ≤ nextBound j v x) × (nextBound j v x ≤ x)

@@ -30,8 +30,8 @@ firstBest p v (c ∷ cs) = greater v (passing p c) (firstBest p v cs)
 unfoldable pub best : List Job → ℕ → Option (List ℕ)
 best js x = firstBest (meets js x) (total js) (choices js)
 
--- demand 3: "The chosen plan meets the rule ..; every other choice that meets the rule has a smaller total, or the same
--- total and a higher recipe number at the last batch where the two differ"
+-- demand 3: "the plan meets the rule"; "Every other choice of one recipe a batch that meets the rule has a smaller total, or the
+-- same total and a higher recipe number at the last batch where the two differ."
 pub record Chosen (js : List Job) (x : ℕ) (ch : List ℕ) : Type 0 where
   pub valid : Valid js ch
   pub meeting : meets js x ch ≡ true

@@ -14,7 +14,8 @@ use Rattle.jobs.specs.Model.{versionOf}
 abbrev pub endOf : Job → ℕ → ℕ
 endOf j x = min (j .due) x
 
--- "and starts its recipe's cost earlier." "A batch that is set aside .. leaves the bound; its stretch starts and ends at the bound."
+-- "and starts its recipe's cost earlier." "A batch that is set aside .. leaves the bound; its stretch starts and ends at the
+-- bound."
 unfoldable pub stretchOf : Job → Version → ℕ → Stretch
 stretchOf j v x =
     cond (v .read)

@@ -12,39 +12,39 @@ use Rattle.jobs.specs.Contract.{stretched}
 use Rattle.jobs.proofs.Rules.{stretched-meets}
 use Rattle.week.specs.declared.record.Week.{Week}
 use Rattle.week.specs.declared.refusal.Refusal.{Refusal}
-use Rattle.week.specs.Refusal.{accepted, refused}
-use Rattle.week.specs.Fault.{handedFault}
-use Rattle.week.proofs.First.{number-of, firstOf-one, firstOf-proper}
-use Rattle.week.proofs.First.{refusedIf-true, refusedIf-false, refusedIf-proper, unless-passed, unless-refused-by, unless-names}
+use Rattle.week.specs.Refusal.{accepted, refused, firstOf}
+use Rattle.judge.specs.Fault.{handedFaults}
+use Rattle.week.proofs.First.{Proper, number-of, refusedIf-true, refusedIf-false, refusedIf-proper, firstOf-proper, append-first}
+use Rattle.week.proofs.First.{append-last}
+use Rattle.week.proofs.Answering.{Answers, answers, answers-name}
 use Rattle.planner.specs.declared.check.Checked.{Checked}
-use Rattle.planner.specs.Job.{weekJobs}
-use Rattle.planner.specs.Check.{weekChoice, ruleFault, checkFault, passed, refusedCheck, checkAnswer}
-use Rattle.planner.proofs.Handed.{first-handed, first-after}
+use Rattle.planner.specs.Job.{weekJobs, weekChoice}
+use Rattle.planner.specs.Check.{ruleFault, checkFault, passed, refusedCheck, checkAnswer}
 
 module _ (w : Week) (choice : List ℕ) where
   abbrev failed : ℕ
   failed = failing (weekJobs w) (w .closing) (weekChoice w choice)
 
-  pub answer-refused : {r : Refusal} → checkFault w choice ≡ r → (r .number ≡ 0 → ⊥) → checkAnswer w choice ≡ refusedCheck r
+  pub check-answers : Answers (checkFault w choice) refusedCheck (passed w choice) (checkAnswer w choice)
   unfolding checkAnswer
-  answer-refused e n = unless-refused-by refusedCheck _ e n
-
-  pub answer-passed : checkFault w choice .number ≡ 0 → checkAnswer w choice ≡ passed w choice
-  unfolding checkAnswer
-  answer-passed z = unless-passed _ _ _ z
+  check-answers = answers _ _ _
 
   -- the refusal answered is the first of the order
-  pub answer-refusal : checkAnswer w choice .refusal ≡ checkFault w choice
-  unfolding checkAnswer passed refusedCheck checkFault
-  answer-refusal = unless-names _ _ _ (λ (a : Checked). a .refusal) refl refl (firstOf-proper _)
+  pub check-refusal : checkAnswer w choice .refusal ≡ checkFault w choice
+  unfolding checkFault passed refusedCheck
+  check-refusal = answers-name check-answers (λ (a : Checked). a .refusal) (λ z. refl) (λ r. refl) (firstOf-proper _)
 
-  pub fault-handed : (handedFault w choice .number ≡ 0 → ⊥) → checkFault w choice ≡ handedFault w choice
+  pub fault-handed : (firstOf (handedFaults w choice) .number ≡ 0 → ⊥) → checkFault w choice ≡ firstOf (handedFaults w choice)
   unfolding checkFault
-  fault-handed n = first-handed w choice (ruleFault w choice ∷ []) n
+  fault-handed = append-first (handedFaults w choice) (ruleFault w choice ∷ [])
 
-  pub fault-rule : handedFault w choice .number ≡ 0 → checkFault w choice ≡ ruleFault w choice
-  unfolding checkFault ruleFault
-  fault-rule z = first-after w choice (ruleFault w choice ∷ []) z ∙ firstOf-one (ruleFault w choice) (refusedIf-proper _ _ _ _)
+  rule-proper : Proper (ruleFault w choice)
+  unfolding ruleFault
+  rule-proper = refusedIf-proper 15 failed 0 refl _
+
+  pub fault-rule : firstOf (handedFaults w choice) .number ≡ 0 → checkFault w choice ≡ ruleFault w choice
+  unfolding checkFault
+  fault-rule = append-last (handedFaults w choice) (ruleFault w choice) rule-proper
 
   pub rule-met : failed ≡ 0 → ruleFault w choice ≡ accepted
   unfolding ruleFault
@@ -56,7 +56,7 @@ module _ (w : Week) (choice : List ℕ) where
 
   -- p is the rule's answer for a list and a choice that have passed
   module _
-      {p : Stretched} (handed-passed : handedFault w choice .number ≡ 0)
+      {p : Stretched} (handed-passed : firstOf (handedFaults w choice) .number ≡ 0)
       (is : p ≡ stretched (weekJobs w) (w .closing) (weekChoice w choice))
     where
       failed-at : p .failing ≡ failed
@@ -65,7 +65,7 @@ module _ (w : Week) (choice : List ℕ) where
 
       pub stretched-refused : {r : Refusal} → r ≡ refused 15 (p .failing) 0 → (p .failing ≡ 0 → ⊥) → checkAnswer w choice ≡ refusedCheck r
       stretched-refused e n =
-          answer-refused
+          check-answers .refused
           (fault-rule handed-passed
           ∙ rule-broken (λ z. n (failed-at ∙ z))
           ∙ ap (λ (at : ℕ). refused 15 at 0) (sym failed-at)
@@ -77,4 +77,4 @@ module _ (w : Week) (choice : List ℕ) where
       unfolding passed
       stretched-passed z none added =
           let met : failed ≡ 0 = sym failed-at ∙ z in
-          answer-passed (number-of (fault-rule handed-passed ∙ rule-met met)) ∙ rw (none, added, is, stretched-meets _ _ _ met)
+          check-answers .passed (number-of (fault-rule handed-passed ∙ rule-met met)) ∙ rw (none, added, is, stretched-meets _ _ _ met)

@@ -9,37 +9,38 @@ use mathlib.Core.Bool.{true}
 use mathlib.Core.List.{List, [], _∷_, _++_}
 use lib.ListN.{length, getD, drop}
 use borrow.Author.Tests.{eqb-true, not-false}
-use Rattle.jobs.specs.Model.{atPosition}
+use Rattle.arrays.specs.Position.{atPosition}
 use Rattle.jobs.specs.Rule.{meets, failing}
-use Rattle.jobs.specs.Contract.{stretchAt}
+use Rattle.jobs.specs.Stretches.{stretchAt}
 use Rattle.jobs.specs.Choice.{Higher}
-use Rattle.jobs.proofs.Places.{backward-take}
-use Rattle.jobs.proofs.Arrays.{chosen-placed, names-valid}
+use Rattle.jobs.proofs.ChoiceArrays.{chosen-placed, names-valid}
 use Rattle.jobs.proofs.Rules.{meets-failing}
-use Rattle.jobs.proofs.Demand.{best-some, best-none, none-best}
+use Rattle.jobs.proofs.BestOfAll.{best-some, best-none, none-best}
 use Rattle.edf.specs.Run.{outcomeNumbers}
+use Rattle.select.proofs.Picks.{filled-size}
 use Rattle.select.proofs.Entries.{filled-entry, filled-later}
 use Rattle.select.specs.Table.{entryAt}
 use Rattle.week.specs.declared.record.Week.{Week}
 use Rattle.week.specs.Record.{batchOf, recipeOf, spanOf, readyOf}
 use Rattle.week.specs.Refusal.{refused}
-use Rattle.week.specs.Fault.{WellFormed, WellChosen}
-use Rattle.week.proofs.First.{number-of, firstOf-none, refusedIf-none}
-use Rattle.week.proofs.Sound.{Sound, sound, Named, named, well-chosen}
-use Rattle.week.proofs.Order.{position-order}
-use Rattle.planner.specs.Job.{jobListOf, weekJobs}
-use Rattle.planner.specs.Check.{weekChoice, ruleFault, checkFault, passed, refusedCheck, checkAnswer}
-use Rattle.planner.specs.Choose.{widthOf, chooseFault, refusedPlan, planOf, chooseAnswer, tableAfter}
-use Rattle.planner.specs.Choose.{planChoice, Fills, PicksTable, BestPlan, NoPlan, LongEnough}
-use Rattle.planner.specs.Run.{runFault, weekLog, setAside, refusedRun, runAnswer, logAfter, LongLog}
-use Rattle.planner.specs.Run.{chosenMinutes, unreadAt, StationLog, LogSays, InTime}
-use Rattle.planner.proofs.Handed.{none-handed, handed-passes}
-use Rattle.planner.proofs.Jobs.{handed-names, names-handed, plan-names}
-use Rattle.planner.proofs.Late.{late-recipe}
-use Rattle.planner.proofs.Checking.{answer-refused, answer-passed, answer-refusal, fault-rule, rule-met, rule-broken}
-use Rattle.planner.proofs.Choosing.{long-enough, faultless, plan-passed, answer-fault, fills-faultless}
-use Rattle.planner.proofs.Choosing.{zero-some, fourteen-none, table-kept, table-filled, table-size}
-use Rattle.planner.proofs.Running.{run-refusal, run-faultless, run-refused, run-passed, log-kept, log-written, long-log}
+use Rattle.judge.specs.Fault.{WellFormed, WellChosen}
+use Rattle.week.proofs.First.{number-of, refusedIf-none, refuses-too}
+use Rattle.judge.proofs.Sound.{Sound, sound, Named, choice-passes, choice-proper, handed-passes}
+use Rattle.judge.proofs.DueOrder.{position-order}
+use Rattle.week.proofs.Passes.{firstOf-passes}
+use Rattle.judge.proofs.WellFormed.{list-passes, list-proper}
+use Rattle.planner.specs.Job.{jobListOf, weekJobs, weekChoice}
+use Rattle.planner.specs.Check.{ruleFault, checkFault, passed, refusedCheck, checkAnswer}
+use Rattle.planner.specs.Choose.{widthOf, chooseFault, refusedPlan, planOf, chooseAnswer, tableAfter, planChoice, FillsTable}
+use Rattle.planner.specs.Choose.{PicksTable, BestPlan, NoPlan, LongTable}
+use Rattle.planner.specs.Run.{runFault, weekLog, setAside, refusedRun, runAnswer, logAfter, LongLog, chosenMinutes, unreadAt}
+use Rattle.planner.specs.Run.{StationLog, LogSays, InTime}
+use Rattle.planner.proofs.Jobs.{handed-names, names-handed, plan-names, list-choice}
+use Rattle.planner.proofs.LateBatch.{late-recipe}
+use Rattle.planner.proofs.Checking.{check-refusal, fault-rule, rule-met, rule-broken, check-answers}
+use Rattle.planner.proofs.Choosing.{long-table, fill-faultless, plan-passed, answer-fault, fills-faultless, plan-exists}
+use Rattle.planner.proofs.Choosing.{plan-absent, table-kept, table-filled}
+use Rattle.planner.proofs.Running.{run-refusal, run-faultless, log-kept, log-written, long-log, run-answers}
 use Rattle.planner.proofs.Station.{station-log, week-in-time}
 use Rattle.planner.proofs.Outcomes.{log-says, finished}
 
@@ -48,7 +49,7 @@ use Rattle.planner.proofs.Outcomes.{log-says, finished}
 -- everywhere else.
 pub check-refuses : (w : Week) (choice : List ℕ) → (checkAnswer w choice .refusal .number ≡ 0 → ⊥) →
     checkAnswer w choice ≡ refusedCheck (checkFault w choice)
-check-refuses w choice n = answer-refused w choice refl (λ z. n (number-of (answer-refusal w choice) ∙ z))
+check-refuses w choice n = check-answers w choice .refused refl (refuses-too (check-refusal w choice) n)
 
 -- Choose's contract answers `chooseAnswer` and leaves `tableAfter` on every input. Where it refuses, the answer is the first
 -- refusal of Choose's order and 0 everywhere else ..
@@ -57,19 +58,19 @@ pub choose-refuses : (w : Week) (size : ℕ) → (chooseAnswer w size .refusal .
 choose-refuses = answer-fault
 
 -- .. and "a refused call alters no lent memory but the one table 01 names".
-pub choose-keeps : (w : Week) (table : List ℕ) → (Fills (chooseAnswer w (length table)) → ⊥) → tableAfter w table ≡ table
+pub choose-keeps : (w : Week) (table : List ℕ) → (FillsTable (chooseAnswer w (length table)) → ⊥) → tableAfter w table ≡ table
 choose-keeps w table n = table-kept w table refl (λ z. n (fills-faultless w (length table) .1 z))
 
 -- That table, where Choose answers a plan or 14: each of its bytes is what 01 says of it ..
-module _ (w : Week) (table : List ℕ) (fills : Fills (chooseAnswer w (length table))) where
-  passed-both : WellFormed w × LongEnough w (length table)
-  passed-both = faultless w (length table) .0 (fills-faultless w (length table) .0 fills)
+module _ (w : Week) (table : List ℕ) (fills : FillsTable (chooseAnswer w (length table))) where
+  passed-both : WellFormed w × LongTable w (length table)
+  passed-both = fill-faultless w (length table) .0 (fills-faultless w (length table) .0 fills)
 
   pub choose-fills : PicksTable w table (tableAfter w table)
   choose-fills =
       rw (table-filled w table (fills-faultless w (length table) .0 fills))
       record {
-        size = table-size w table (long-enough w (length table) .0 (passed-both .1));
+        size = filled-size (jobListOf w) (w .opening) (widthOf w) table (long-table w (length table) .0 (passed-both .1));
         entry = λ i x first last from to.
             filled-entry (jobListOf w) (w .opening) (widthOf w) table
             (record { first = first; last = last; from = from; to = omega arith });
@@ -81,7 +82,7 @@ module _ (w : Week) (table : List ℕ) (fills : Fills (chooseAnswer w (length ta
       recipeOf (batchOf w i) (getD (tableAfter w table) (entryAt (w .opening) (widthOf w) i x) 0) .cost ≡ 0
   late-batch i x first last from to late =
       rw (choose-fills .entry i x first last from to)
-      (late-recipe w (sound w (number-of (passed-both .0))) i x first last late)
+      (late-recipe w (sound w (passed-both .0)) i x first last late)
 
 -- Run's contract answers `runAnswer` and leaves `logAfter` on every input. 01: "Run takes any well-formed choice, also one that
 -- breaks the rule", of a well-formed list, with a log that 12 does not catch ..
@@ -89,34 +90,34 @@ pub run-runs : (w : Week) (choice : List ℕ) (size : ℕ) →
     (runAnswer w choice size .refusal .number ≡ 0) ↔ (WellFormed w × WellChosen w choice × LongLog w size)
 run-runs w choice size =
     let same = number-of (run-refusal w choice size) in
-    let faultless = run-faultless w choice size in
-    (λ z. faultless .0 (sym same ∙ z), λ h. same ∙ faultless .1 h)
+    let fill-faultless = run-faultless w choice size in
+    (λ z. fill-faultless .0 (sym same ∙ z), λ h. same ∙ fill-faultless .1 h)
 
 -- .. and where it refuses, the answer is the first refusal of Run's order, 0 and set aside everywhere else, and the log is kept.
 pub run-refuses : (w : Week) (choice : List ℕ) (size : ℕ) → (runAnswer w choice size .refusal .number ≡ 0 → ⊥) →
     runAnswer w choice size ≡ refusedRun (runFault w choice size)
-run-refuses w choice size n = run-refused w choice size refl (λ z. n (number-of (run-refusal w choice size) ∙ z))
+run-refuses w choice size n = run-answers w choice size .refused refl (refuses-too (run-refusal w choice size) n)
 
 pub run-keeps : (w : Week) (choice log : List ℕ) → (runAnswer w choice (length log) .refusal .number ≡ 0 → ⊥) →
     logAfter w choice log ≡ log
-run-keeps w choice log n = log-kept w choice log refl (λ z. n (number-of (run-refusal w choice (length log)) ∙ z))
+run-keeps w choice log n = log-kept w choice log refl (refuses-too (run-refusal w choice (length log)) n)
 
 -- Demand 2: "A plan must meet the backward rule of the ECRTS 2008 paper as 01 writes it; a well-formed list's plan that meets
 -- it is passed ..
 module _ (w : Week) (choice : List ℕ) (list : WellFormed w) (handed : WellChosen w choice) where
   by-rule : checkFault w choice ≡ ruleFault w choice
-  by-rule = fault-rule w choice (handed-passes w choice list handed)
+  by-rule = fault-rule w choice (handed-passes w choice .1 (list, handed))
 
   pub check-passes : meets (weekJobs w) (w .closing) (weekChoice w choice) ≡ true → checkAnswer w choice ≡ passed w choice
   check-passes met =
-      answer-passed w choice
+      check-answers w choice .passed
       (number-of (by-rule ∙ rule-met w choice (meets-failing (weekJobs w) (w .closing) (weekChoice w choice) .0 met)))
 
   -- .. where it does not meet the rule, Check says 15 and "the first failing position met going backward" ..
   pub check-breaks : (meets (weekJobs w) (w .closing) (weekChoice w choice) ≡ true → ⊥) →
       checkAnswer w choice .refusal ≡ refused 15 (failing (weekJobs w) (w .closing) (weekChoice w choice)) 0
   check-breaks unmet =
-      answer-refusal w choice
+      check-refusal w choice
       ∙ by-rule
       ∙ rule-broken w choice (λ z. unmet (meets-failing (weekJobs w) (w .closing) (weekChoice w choice) .1 z))
 
@@ -129,13 +130,13 @@ pub record Passed (w : Week) (choice : List ℕ) : Type 0 where
 pub check-passed : (w : Week) (choice : List ℕ) → checkAnswer w choice .refusal .number ≡ 0 → Passed w choice
 unfolding checkFault ruleFault
 check-passed w choice z =
-    let handed = none-handed w choice (ruleFault w choice ∷ []) (number-of (sym (answer-refusal w choice)) ∙ z) in
+    let (list, (handed, (rule, _))) = firstOf-passes _ .0 (number-of (sym (check-refusal w choice)) ∙ z) in
     record {
-      list = handed .0;
-      handed = handed .1;
+      list = list-proper w list;
+      handed = choice-proper w choice handed;
       meeting =
           meets-failing (weekJobs w) (w .closing) (weekChoice w choice) .1
-          (eqb-true _ _ (not-false _ (refusedIf-none _ _ _ _ (firstOf-none _ _ (handed .2) .0))));
+          (eqb-true _ _ (not-false _ (refusedIf-none 15 _ 0 refl _ rule)));
     }
 
 -- "the station's run is earliest due first, minute by minute, as 01 defines it; the desk's minutes stand as written": a log that
@@ -148,10 +149,10 @@ module _ (w : Week) (choice log : List ℕ) (runs : runAnswer w choice (length l
   all-passed = run-faultless w choice (length log) .0 nothing-refuses
 
   list-sound : Sound w
-  list-sound = sound w (number-of (all-passed .0))
+  list-sound = sound w (all-passed .0)
 
   choice-named : Named w choice
-  choice-named = named w choice (number-of (all-passed .1))
+  choice-named = choice-passes w choice .0 (all-passed .1)
 
   written : logAfter w choice log ≡ weekLog w choice ++ drop (spanOf w) log
   written = log-written w choice log nothing-refuses
@@ -168,18 +169,18 @@ module _ (w : Week) (choice log : List ℕ) (runs : runAnswer w choice (length l
       1 ≤ unreadAt w choice (logAfter w choice log) m i → batchOf w k .due ≤ batchOf w i .due
   earliest-due m from to some i low high arrived unread =
       let reads = run-reads .reads m from to in
-      position-order w (number-of (all-passed .0)) _ i some (reads .first i low high arrived unread .1) high
+      position-order w (list-passes w .0 (all-passed .0)) _ i some (reads .first i low high arrived unread .1) high
 
   -- The answer says of that log what 01 asks: each outcome, the idle minutes, the changes.
   pub run-says : LogSays w choice (logAfter w choice log) (runAnswer w choice (length log))
-  run-says = rw (written, run-passed w choice (length log) nothing-refuses) (log-says w list-sound choice choice-named log)
+  run-says = rw (written, run-answers w choice (length log) .passed nothing-refuses) (log-says w list-sound choice choice-named log)
 
 -- Demand 3: "The chosen plan meets the rule and its total is the sum of its worths; every other choice that meets the rule has a
 -- smaller total, or the same total and a higher recipe number at the last batch where the two differ" ..
 pub choose-best : (w : Week) (size : ℕ) → chooseAnswer w size .refusal .number ≡ 0 → BestPlan w (chooseAnswer w size)
 unfolding planOf
 choose-best w size z =
-    let plan = zero-some w size z in
+    let plan = plan-exists w size z in
     let chosen = best-some (weekJobs w) (w .closing) (plan .0) (plan .1) in
     let back = chosen-placed (jobListOf w) (plan .0) (chosen .valid) in
     rw (plan-passed w size (fills-faultless w size .0 (inl z)) (plan .1))
@@ -187,26 +188,26 @@ choose-best w size z =
 
 -- .. "refusal 14 exactly when no choice meets the rule".
 pub choose-none : (w : Week) (size : ℕ) →
-    (chooseAnswer w size .refusal .number ≡ 14) ↔ (WellFormed w × LongEnough w size × NoPlan w)
+    (chooseAnswer w size .refusal .number ≡ 14) ↔ (WellFormed w × LongTable w size × NoPlan w)
 unfolding planOf refusedPlan
 choose-none w size = (
   λ f.
-      let passed = faultless w size .0 (fills-faultless w size .0 (inr f)) in
-      (passed .0, passed .1, best-none (weekJobs w) (w .closing) (fourteen-none w size f)),
-  λ h. rw (plan-passed w size (faultless w size .1 (h .0, h .1)) (none-best (weekJobs w) (w .closing) (h .2))),
+      let passed = fill-faultless w size .0 (fills-faultless w size .0 (inr f)) in
+      (passed .0, passed .1, best-none (weekJobs w) (w .closing) (plan-absent w size f)),
+  λ h. rw (plan-passed w size (fill-faultless w size .1 (h .0, h .1)) (none-best (weekJobs w) (w .closing) (h .2))),
 )
 
 -- 01: "and nothing else is refused": a plan exactly where the list is well formed, the table long enough and some choice meets
 -- the rule.
 pub choose-plans : (w : Week) (size : ℕ) →
-    (chooseAnswer w size .refusal .number ≡ 0) ↔ (WellFormed w × LongEnough w size × (NoPlan w → ⊥))
+    (chooseAnswer w size .refusal .number ≡ 0) ↔ (WellFormed w × LongTable w size × (NoPlan w → ⊥))
 choose-plans w size = (
   λ z.
-      let passed = faultless w size .0 (fills-faultless w size .0 (inl z)) in
+      let passed = fill-faultless w size .0 (fills-faultless w size .0 (inl z)) in
       (passed .0, passed .1, λ no. omega (arith, choose-none w size .1 (passed .0, passed .1, no))),
   λ h.
       ⊎-elim (λ z. z) (λ f. absurd (h .2 (choose-none w size .0 f .2)))
-      (fills-faultless w size .1 (faultless w size .1 (h .0, h .1))),
+      (fills-faultless w size .1 (fill-faultless w size .1 (h .0, h .1))),
 )
 
 -- So no choice that Check passes is better than the one that Choose answers.
@@ -220,7 +221,7 @@ unfolding passed
 choose-over-check w size z choice e other =
     let plan = choose-best w size z in
     let p = check-passed w choice e in
-    let names = handed-names w (sound w (number-of (p .list))) (named w choice (number-of (p .handed))) in
+    let names = handed-names w (sound w (p .list)) (choice-passes w choice .0 (p .handed)) in
     rw (check-passes w choice (p .list) (p .handed) (p .meeting), plan .summed)
     (plan .chosen .others (weekChoice w choice) (names-valid names) (p .meeting) other)
 
@@ -241,7 +242,7 @@ module _
         × (outcomeNumbers (atPosition setAside (runAnswer w choice (length log) .batches) i .outcome) ≡ 1 ∷ f ∷ [])
         × (f ≤ stretchAt (jobListOf w) choice (w .closing) i .end)
     run-finishes =
-        rw (run-passed w choice (length log) (nothing-refuses w choice log runs))
+        rw (run-answers w choice (length log) .passed (nothing-refuses w choice log runs))
         (finished w (list-sound w choice log runs) choice (choice-named w choice log runs) meeting)
 
 -- .. and so of the plan that Choose answers.
@@ -254,24 +255,22 @@ module _ (w : Week) (size : ℕ) (planned : chooseAnswer w size .refusal .number
   pub choose-names : Named w plan
   unfolding planOf
   choose-names =
-      let some = zero-some w size planned in
+      let some = plan-exists w size planned in
       let passed = fills-faultless w size .0 (inl planned) in
-      let fine = sound w (number-of (faultless w size .0 passed .0)) in
+      let fine = sound w (fill-faultless w size .0 passed .0) in
       rw (plan-passed w size passed (some .1))
       (names-handed w fine (plan-names w fine (some .0) (best-some (weekJobs w) (w .closing) (some .0) (some .1) .valid)))
 
   -- .. and meets the rule
   pub choose-meets : meets (weekJobs w) (w .closing) (weekChoice w plan) ≡ true
-  choose-meets =
-      rw (backward-take 0 (chooseAnswer w size .choice) (w .count) (w .count) (omega arith))
-      (choose-best w size planned .chosen .meeting)
+  choose-meets = rw (list-choice w (chooseAnswer w size .choice)) (choose-best w size planned .chosen .meeting)
 
   -- 01: "Run with the same list, with that plan as its choice and with a log that 12 does not catch".
   module _ (log : List ℕ) (long : LongLog w (length log)) where
     pub choose-runs : runAnswer w plan (length log) .refusal .number ≡ 0
     choose-runs =
-        let list = faultless w size .0 (fills-faultless w size .0 (inl planned)) .0 in
-        run-runs w plan (length log) .1 (list, well-chosen w choose-names, long)
+        let list = fill-faultless w size .0 (fills-faultless w size .0 (inl planned)) .0 in
+        run-runs w plan (length log) .1 (list, choice-passes w plan .1 choose-names, long)
 
     pub choose-in-time : InTime w plan (logAfter w plan log)
     choose-in-time = run-in-time w plan log choose-runs choose-meets

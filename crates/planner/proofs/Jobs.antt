@@ -5,24 +5,30 @@ use mathlib.Core.Path.{_≡_, ap}
 use mathlib.Core.List.{List}
 use lib.ListN.{getD, take}
 use lib.Seq.{length-take-le, getD-take}
+use Rattle.arrays.specs.Made.{placed}
+use Rattle.arrays.proofs.Places.{backward-take}
+use Rattle.arrays.proofs.Tabulates.{tabulate-at}
+use Rattle.arrays.specs.Bits.{max16}
 use Rattle.jobs.specs.declared.model.Version.{Version}
 use Rattle.jobs.specs.declared.model.Job.{Job}
-use Rattle.jobs.specs.Model.{maxVersions, noVersion, noJob, versionOf, placed}
+use Rattle.jobs.specs.Model.{maxVersions, noVersion, noJob, versionOf}
 use Rattle.jobs.specs.Choice.{Valid, total}
 use Rattle.jobs.specs.Contract.{Names, Answerable}
-use Rattle.jobs.proofs.Arrays.{valid-names}
-use Rattle.jobs.proofs.Named.{named-version}
-use Rattle.jobs.proofs.Places.{tabulate-at}
-use Rattle.jobs.proofs.Sums.{sum-small}
+use Rattle.jobs.proofs.ChoiceArrays.{valid-names, named-version}
+use Rattle.jobs.proofs.Totals.{total-bound}
 use Rattle.select.specs.Word.{Packable}
 use Rattle.select.specs.Contract.{Fillable}
 use Rattle.week.specs.declared.record.Batch.{Batch}
 use Rattle.week.specs.declared.record.Week.{Week}
-use Rattle.week.specs.Record.{maxBatches, maxRecipes, batchAt, recipeAt}
-use Rattle.week.proofs.Sound.{Sound, Named}
-use Rattle.planner.specs.Job.{versionFrom, jobFrom, jobListOf, weekJobs}
-use Rattle.planner.specs.Check.{weekChoice}
+use Rattle.week.specs.Record.{maxBatches, maxRecipes, batchAt}
+use Rattle.judge.proofs.Sound.{Sound, Named}
+use Rattle.week.proofs.Owned.{WorthsFit}
+use Rattle.planner.specs.Job.{versionFrom, jobFrom, jobListOf, weekJobs, weekChoice, listChoice}
 use Rattle.planner.specs.Choose.{widthOf}
+
+-- the first bytes of an array that hold a choice hold that choice
+pub list-choice : (w : Week) (bytes : List ℕ) → weekChoice w (listChoice w bytes) ≡ weekChoice w bytes
+list-choice w bytes = backward-take 0 bytes (w .count) (w .count) (omega arith)
 
 pub version-at : (t : ℕ) (b : Batch) (k : ℕ) → 1 ≤ k → k ≤ maxRecipes → versionOf (jobFrom t b) k ≡ versionFrom b (k - 1)
 version-at t b zero low high = absurd (omega arith)
@@ -46,8 +52,7 @@ module _ (w : Week) (sound : Sound w) where
       record {
         most = sound .most;
         whole = omega (arith, named .whole);
-        low = named .low;
-        high = λ i l. omega (arith, count-at i l, named .high i l);
+        each = λ i l. (named .each i l .0, omega (arith, count-at i l, named .each i l .1));
         few = few-versions;
       }
 
@@ -56,8 +61,8 @@ module _ (w : Week) (sound : Sound w) where
   names-handed {array} names =
       record {
         whole = length-take-le (w .count) array (names .whole);
-        low = λ i l. rw (getD-take (w .count) array i 0 l) (names .low i l);
-        high = λ i l. rw (getD-take (w .count) array i 0 l) (omega (arith, count-at i l, names .high i l));
+        each = λ i l.
+            rw (getD-take (w .count) array i 0 l) (names .each i l .0, omega (arith, count-at i l, names .each i l .1));
       }
 
   -- a choice of the jobs, in list order, names a version of each
@@ -65,8 +70,8 @@ module _ (w : Week) (sound : Sound w) where
   plan-names ks valid = valid-names (jobListOf w) ks valid (sound .most) few-versions
 
   -- each worth has 16 bits
-  module _ (fit : (i k : ℕ) → i < maxBatches → k < maxRecipes → recipeAt (batchAt w i) k .worth < 65536) where
-    worth-at : (i k : ℕ) → i < w .count → 1 ≤ k → k ≤ maxRecipes → versionOf (getD (jobListOf w .jobs) i noJob) k .worth ≤ 65535
+  module _ (fit : WorthsFit w) where
+    worth-at : (i k : ℕ) → i < w .count → 1 ≤ k → k ≤ maxRecipes → versionOf (getD (jobListOf w .jobs) i noJob) k .worth ≤ max16
     worth-at i k l low high =
         omega (
           arith,
@@ -81,11 +86,11 @@ module _ (w : Week) (sound : Sound w) where
 
     -- and the total of a choice is at most 1,048,560, which 32 bits hold
     module _ {choice : List ℕ} (names : Names (jobListOf w) choice) where
-      pub total-small : total (weekJobs w) (weekChoice w choice) ≤ maxBatches * 65535
+      pub total-small : total (weekJobs w) (weekChoice w choice) ≤ maxBatches * max16
       total-small =
           omega (
             arith,
-            sum-small (jobListOf w .jobs) choice 65535 (w .count)
+            total-bound (jobListOf w .jobs) choice max16 (w .count)
                 (λ i l. let named = named-version names i l in worth-at i (getD choice i 0) l (named .0) (named .1)),
             sound .most,
           )

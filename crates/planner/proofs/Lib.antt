@@ -1,11 +1,10 @@
 pub mod Demands
 pub mod Jobs
-pub mod Late
+pub mod LateBatch
 pub mod Checking
 pub mod Choosing
 pub mod ReadOff
-pub mod Handed
 pub mod Running
-pub mod Written
+pub mod AsWritten
 pub mod Station
 pub mod Outcomes

@@ -1,44 +1,32 @@
 -- What Run answers of the log that it leaves: the outcome at each position, by the records, and of a choice that meets the rule.
 use Prim.Native.Nat.{ℕ, suc, _+_, _-_, _≤_}
 use native.Mathlib.Omega.{arith}
-use mathlib.Core.Path.{_≡_, refl, sym, ap, ap₂, _∙_}
-use mathlib.Core.Bool.{Bool, true, false, cond}
+use mathlib.Core.Path.{_≡_, sym, ap, ap₂, _∙_}
+use mathlib.Core.Bool.{Bool, true, false}
 use mathlib.Core.List.{List, [], _∷_, _++_}
 use lib.ListN.{drop}
-use lib.Dec.{leb}
 use borrow.Author.Tests.{ne-eqb}
-use Rattle.jobs.specs.Model.{atPosition, tabulate}
+use Rattle.arrays.specs.Position.{atPosition}
+use Rattle.arrays.specs.Made.{tabulate}
+use Rattle.arrays.proofs.Tabulates.{length-tabulate, position-padded}
+use Rattle.arrays.proofs.Places.{position-beyond}
 use Rattle.jobs.specs.Rule.{meets}
-use Rattle.jobs.specs.Contract.{stretchAt}
-use Rattle.jobs.proofs.Places.{length-tabulate, position-padded, position-beyond}
-use Rattle.edf.specs.Run.{entries, idle, changes, upToLast, outcomeOf, outcomeNumbers}
+use Rattle.jobs.specs.Stretches.{stretchAt}
+use Rattle.edf.specs.Run.{entries, idle, changes, outcomeOf, outcomeNumbers}
 use Rattle.edf.specs.Workload.{readyAt, minutesAt, asideAt, choiceLog, workloadOf, outcomeAt}
+use Rattle.edf.proofs.OutcomeNumbers.{outcome-numbers}
 use Rattle.edf.proofs.Workloads.{workload-outcome}
 use Rattle.edf.proofs.InTime.{stretch-in, choice-in-time}
 use Rattle.edf.proofs.Finished.{finished-by}
 use Rattle.week.specs.declared.record.Week.{Week}
 use Rattle.week.specs.Record.{maxBatches, spanOf}
-use Rattle.week.proofs.Sound.{Sound, Named}
+use Rattle.judge.proofs.Sound.{Sound, Named}
 use Rattle.planner.specs.declared.run.BatchRun.{BatchRun}
 use Rattle.planner.specs.declared.run.WeekRun.{WeekRun}
-use Rattle.planner.specs.Job.{jobListOf, weekJobs}
-use Rattle.planner.specs.Check.{weekChoice}
+use Rattle.planner.specs.Job.{jobListOf, weekJobs, weekChoice}
 use Rattle.planner.specs.Run.{weekLog, setAside, logAnswer, chosenMinutes, outcomeSaid, LogSays}
-use Rattle.planner.proofs.Written.{minutes-written, aside-written}
-use Rattle.planner.proofs.Station.{take-week, planned}
-
--- an outcome as numbers, test by test
-numbers-of : (aside : Bool) (m t : ℕ) (log : List ℕ) (i : ℕ) →
-    outcomeNumbers (outcomeOf aside m t log i)
-    ≡ cond aside (0 ∷ 0 ∷ []) (cond (leb m (entries i log)) (1 ∷ (t + upToLast i log) ∷ []) (2 ∷ (m - entries i log) ∷ []))
-unfolding outcomeOf outcomeNumbers
-numbers-of true m t log i = refl
-numbers-of false m t log i = by-read (leb m (entries i log)) refl
-  where
-    by-read : (q : Bool) → leb m (entries i log) ≡ q →
-        outcomeNumbers (outcomeOf false m t log i) ≡ cond q (1 ∷ (t + upToLast i log) ∷ []) (2 ∷ (m - entries i log) ∷ [])
-    by-read true e = rw e
-    by-read false e = rw e
+use Rattle.planner.proofs.AsWritten.{minutes-written, aside-written}
+use Rattle.planner.proofs.Station.{take-week, feasible}
 
 module _ (w : Week) (sound : Sound w) (choice : List ℕ) (named : Named w choice) (log : List ℕ) where
   -- the answer's place at position i
@@ -59,7 +47,7 @@ module _ (w : Week) (sound : Sound w) (choice : List ℕ) (named : Named w choic
       ap outcomeNumbers (place-at i low high)
       ∙ ap₂ (λ (aside : Bool) (m : ℕ). outcomeNumbers (outcomeOf aside m (w .opening) log i))
       (aside-written w sound named i low high) (minutes-written w sound named i low high)
-      ∙ numbers-of _ _ (w .opening) log i
+      ∙ outcome-numbers _ _ (w .opening) log i
 
   -- a batch that is read has the outcome of its minutes
   read-at : (i : ℕ) → 1 ≤ i → i ≤ w .count → 1 ≤ chosenMinutes w choice i →
@@ -100,7 +88,7 @@ module _ (w : Week) (sound : Sound w) (choice : List ℕ) (named : Named w choic
       × (f ≤ stretchAt (jobListOf w) choice (w .closing) i .end)
   unfolding outcomeNumbers weekLog choiceLog
   finished meeting i low high some =
-      let plan = planned w choice sound named meeting in
+      let plan = feasible w choice sound named meeting in
       let by =
       finished-by (w .count) (readyAt (jobListOf w)) (minutesAt (jobListOf w) choice) (w .opening) (spanOf w)
       (stretchAt (jobListOf w) choice (w .closing) i .end) i low (stretch-in plan i low high .from)

@@ -6,29 +6,28 @@ use mathlib.Core.Bool.{true}
 use mathlib.Core.List.{List, _++_}
 use lib.ListN.{length, getD, take, drop, List·getD-append}
 use lib.Seq.{take-append-le, take-at}
+use Rattle.arrays.proofs.Front.{length-kept, later-kept}
 use Rattle.jobs.specs.Rule.{meets}
-use Rattle.jobs.specs.Contract.{stretchAt}
-use Rattle.jobs.proofs.Front.{length-kept, later-kept}
+use Rattle.jobs.specs.Stretches.{stretchAt}
 use Rattle.edf.specs.Run.{Reads, entries, minutesLeft, minutesBefore}
 use Rattle.edf.specs.Workload.{readyAt, minutesAt, choiceLog}
-use Rattle.edf.proofs.Open.{reads-same}
+use Rattle.edf.proofs.Pending.{reads-same}
 use Rattle.edf.proofs.Logs.{length-log}
 use Rattle.edf.proofs.Left.{reads-log}
-use Rattle.edf.proofs.Stretches.{Planned}
+use Rattle.edf.proofs.StretchEnds.{Feasible}
 use Rattle.edf.proofs.InTime.{stretch-in, choice-in-time}
 use Rattle.week.specs.declared.record.Week.{Week}
 use Rattle.week.specs.Record.{spanOf, batchOf, readyOf}
-use Rattle.week.proofs.Sound.{Sound, Named}
-use Rattle.planner.specs.Job.{jobListOf, weekJobs}
-use Rattle.planner.specs.Check.{weekChoice}
+use Rattle.judge.proofs.Sound.{Sound, Named}
+use Rattle.planner.specs.Job.{jobListOf, weekJobs, weekChoice}
 use Rattle.planner.specs.Run.{weekLog, chosenMinutes, unreadAt, StationLog, InTime}
-use Rattle.planner.proofs.Written.{ready-written, minutes-written}
+use Rattle.planner.proofs.AsWritten.{ready-written, minutes-written}
 
--- a choice that meets the rule is a plan, none of whose batches is ready before the opening
-pub planned : (w : Week) (choice : List ℕ) → Sound w → Named w choice →
+-- a choice that meets the rule is feasible, and none of its batches is ready before the opening
+pub feasible : (w : Week) (choice : List ℕ) → Sound w → Named w choice →
     meets (weekJobs w) (w .closing) (weekChoice w choice) ≡ true →
-    Planned (jobListOf w) choice (minutesAt (jobListOf w) choice) (w .opening) (w .count) (w .closing)
-planned w choice sound named meeting =
+    Feasible (jobListOf w) choice (minutesAt (jobListOf w) choice) (w .opening) (w .count) (w .closing)
+feasible w choice sound named meeting =
     record {
       from = omega (arith, sound .opens);
       ready = λ i low high. omega (arith, ready-written w sound i low high);
@@ -86,7 +85,7 @@ module _ (w : Week) (choice log : List ℕ) where
       pub week-in-time : InTime w choice after
       unfolding minutesBefore weekLog
       week-in-time i low high =
-          let plan = planned w choice sound named meeting in
+          let plan = feasible w choice sound named meeting in
           let end = stretchAt (jobListOf w) choice (w .closing) i .end in
           ap (entries i) (take-after (end - w .opening) (omega (arith, stretch-in plan i low high .to)))
           ∙ choice-in-time plan (spanOf w) (omega arith) i low high

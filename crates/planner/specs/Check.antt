@@ -1,28 +1,19 @@
 -- Check: what it answers, on every list and every choice.
 use Prim.Native.Nat.{ℕ}
 use mathlib.Core.Bool.{not}
-use mathlib.Core.List.{List, [], _∷_}
-use lib.ListN.{take, replicate}
+use mathlib.Core.List.{List, [], _∷_, _++_}
+use lib.ListN.{replicate}
 use lib.Dec.{eqb}
-use Rattle.jobs.specs.Model.{chosen}
 use Rattle.jobs.specs.Rule.{failing}
 use Rattle.jobs.specs.Choice.{total}
-use Rattle.jobs.specs.Contract.{noStretch, stretchesOf}
+use Rattle.jobs.specs.Stretches.{noStretch, stretchesOf}
 use Rattle.week.specs.declared.record.Week.{Week}
 use Rattle.week.specs.declared.refusal.Refusal.{Refusal}
 use Rattle.planner.specs.declared.check.Checked.{Checked}
 use Rattle.week.specs.Record.{maxBatches}
-use Rattle.week.specs.Refusal.{accepted, refusedIf, firstOf, unlessRefused}
-use Rattle.week.specs.Fault.{listFault, choiceFault}
-use Rattle.planner.specs.Job.{jobListOf, weekJobs}
-
--- a choice handed in, the last batch's recipe first
-abbrev pub weekChoice : Week → List ℕ → List ℕ
-weekChoice w choice = chosen (jobListOf w) choice
-
--- the choice that the first n bytes of an array are: one recipe a batch
-abbrev pub listChoice : Week → List ℕ → List ℕ
-listChoice w bytes = take (w .count) bytes
+use Rattle.week.specs.Refusal.{accepted, refusedIf, firstOf, answerBy}
+use Rattle.judge.specs.Fault.{handedFaults}
+use Rattle.planner.specs.Job.{weekJobs, weekChoice}
 
 -- "15: the choice breaks it (Check), with the first failing position met going backward."
 unfoldable pub ruleFault : Week → List ℕ → Refusal
@@ -32,7 +23,7 @@ ruleFault w choice =
 
 -- the refusals of Check in their order
 unfoldable pub checkFault : Week → List ℕ → Refusal
-checkFault w choice = firstOf (listFault w ∷ choiceFault w choice ∷ ruleFault w choice ∷ [])
+checkFault w choice = firstOf (handedFaults w choice ++ (ruleFault w choice ∷ []))
 
 -- "Check: list and choice, answering the stretches and the total."
 unfoldable pub passed : Week → List ℕ → Checked
@@ -48,4 +39,4 @@ unfoldable pub refusedCheck : Refusal → Checked
 refusedCheck r = record { refusal = r; total = 0; stretches = replicate maxBatches noStretch }
 
 unfoldable pub checkAnswer : Week → List ℕ → Checked
-checkAnswer w choice = unlessRefused (checkFault w choice) (passed w choice) (refusedCheck (checkFault w choice))
+checkAnswer w choice = answerBy (checkFault w choice) refusedCheck (passed w choice)

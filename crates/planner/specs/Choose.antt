@@ -3,11 +3,13 @@ use Prim.Native.Nat.{ℕ, _+_, _*_, _≤_}
 use mathlib.Core.Path.{_≡_}
 use mathlib.Core.Logic.{_⊎_}
 use mathlib.Core.Bool.{true}
-use mathlib.Core.List.{List, [], _∷_}
+use mathlib.Core.List.{List, [], _∷_, _++_}
 use mathlib.Core.Option.{Option, none, some}
 use lib.ListN.{length, getD, replicate}
+use Rattle.arrays.specs.Position.{backward}
+use Rattle.arrays.specs.Made.{placed}
 use Rattle.jobs.specs.declared.model.Job.{Job}
-use Rattle.jobs.specs.Model.{noJob, backward, placed}
+use Rattle.jobs.specs.Model.{noJob}
 use Rattle.jobs.specs.Rule.{meets}
 use Rattle.jobs.specs.Choice.{Valid, total}
 use Rattle.jobs.specs.Best.{best, Chosen, pick}
@@ -16,10 +18,9 @@ use Rattle.week.specs.declared.record.Week.{Week}
 use Rattle.week.specs.declared.refusal.Refusal.{Refusal}
 use Rattle.planner.specs.declared.choose.Plan.{Plan}
 use Rattle.week.specs.Record.{maxBatches, maxMinutes, spanOf}
-use Rattle.week.specs.Refusal.{accepted, refused, orElse, firstOf, shortFault, unlessRefused}
-use Rattle.week.specs.Fault.{listFault}
-use Rattle.planner.specs.Job.{jobListOf, weekJobs}
-use Rattle.planner.specs.Check.{weekChoice, listChoice}
+use Rattle.week.specs.Refusal.{accepted, refused, firstOf, shortFault, unlessRefused, answerBy}
+use Rattle.judge.specs.Fault.{listFault}
+use Rattle.planner.specs.Job.{jobListOf, weekJobs, weekChoice, listChoice}
 
 -- the minutes from t to c, both included: a row of the picks table has an entry for each
 abbrev pub widthOf : Week → ℕ
@@ -43,18 +44,21 @@ abbrev pub weekBest : Week → Option (List ℕ)
 weekBest w = best (weekJobs w) (w .closing)
 
 -- the refusals that leave the table as it was, in their order
+abbrev pub fillFaults : Week → ℕ → List Refusal
+fillFaults w size = listFault w ∷ tableFault w size ∷ []
+
 unfoldable pub fillFault : Week → ℕ → Refusal
-fillFault w size = firstOf (listFault w ∷ tableFault w size ∷ [])
+fillFault w size = firstOf (fillFaults w size)
 
 -- and all of Choose's: "Order: .. 1, 2, 3; then batch by batch 4 to 10 ..; 11; .. then 14"
 unfoldable pub chooseFault : Week → ℕ → Refusal
-chooseFault w size = orElse (fillFault w size) (planFault (weekBest w))
+chooseFault w size = firstOf (fillFaults w size ++ (planFault (weekBest w) ∷ []))
 
 -- "Anything else that its record holds is 0".
 unfoldable pub refusedPlan : Refusal → Plan
 refusedPlan r = record { refusal = r; total = 0; choice = replicate maxBatches 0 }
 
--- "Choose: list, table, answering the choice and its total."
+-- "Choose: list, table, answering the choice and its total.": of a best choice; where there is none, 14 refuses
 unfoldable pub planOf : Week → Option (List ℕ) → Plan
 planOf w none = refusedPlan (planFault none)
 planOf w (some ks) = record { refusal = accepted; total = total (weekJobs w) ks; choice = placed maxBatches 0 ks }
@@ -64,8 +68,7 @@ abbrev pub planChoice : Week → Plan → List ℕ
 planChoice w plan = listChoice w (plan .choice)
 
 unfoldable pub chooseAnswer : Week → ℕ → Plan
-chooseAnswer w size =
-    unlessRefused (fillFault w size) (planOf w (weekBest w)) (refusedPlan (fillFault w size))
+chooseAnswer w size = answerBy (chooseFault w size) refusedPlan (planOf w (weekBest w))
 
 -- "Choosing fills a lent table of bytes." "The table is filled as well when refusal 14 is given." "Only 14 alters lent memory".
 unfoldable pub tableAfter : Week → List ℕ → List ℕ
@@ -73,8 +76,8 @@ tableAfter w table =
     unlessRefused (fillFault w (length table)) (filled (weekJobs w) (w .opening) (widthOf w) table) table
 
 -- an answer with which the table is filled: a plan, or 14
-abbrev pub Fills : Plan → Type 0
-Fills plan = (plan .refusal .number ≡ 0) ⊎ (plan .refusal .number ≡ 14)
+abbrev pub FillsTable : Plan → Type 0
+FillsTable plan = (plan .refusal .number ≡ 0) ⊎ (plan .refusal .number ≡ 14)
 
 -- the jobs of batches 1 to i, the last first
 abbrev pub firstJobs : Week → ℕ → List Job
@@ -100,5 +103,5 @@ abbrev pub NoPlan : Week → Type 0
 NoPlan w = (c : List ℕ) → Valid (weekJobs w) c → meets (weekJobs w) (w .closing) c ≡ true → ⊥
 
 -- 01, "The words of demand 3": "A table is long enough if 11 does not hold".
-abbrev pub LongEnough : Week → ℕ → Type 0
-LongEnough w size = tableFault w size ≡ accepted
+abbrev pub LongTable : Week → ℕ → Type 0
+LongTable w size = tableFault w size ≡ accepted

@@ -4,25 +4,29 @@ use mathlib.Core.Path.{_≡_, refl}
 use mathlib.Core.Bool.{true}
 use mathlib.Core.List.{List, [], _∷_, _++_}
 use lib.ListN.{length, take, replicate}
+use Rattle.arrays.specs.Each.{someBelow}
+use Rattle.arrays.specs.Example.{Example, _is_, same, agree}
 use Rattle.jobs.specs.declared.rule.Stretch.{Stretch}
 use Rattle.jobs.specs.Rule.{stretchOf, fits, nextBound}
 use Rattle.jobs.specs.Best.{best}
-use Rattle.edf.specs.Run.{entries, minutesLeft, firstOpen, logOf, idle, changesAfter, changes, upToLast, outcomeOf, outcomeNumbers}
+use Rattle.edf.specs.Run.{entries, minutesLeft, firstPending, logOf, idle, changesAfter, changes, upToLast, outcomeOf}
+use Rattle.edf.specs.Run.{outcomeNumbers}
 use Rattle.edf.specs.Workload.{choiceLog, workloadOf, outcomeAt}
 use Rattle.select.specs.Table.{filled}
 use Rattle.week.specs.declared.record.Recipe.{Recipe}
 use Rattle.week.specs.declared.record.Batch.{Batch}
 use Rattle.week.specs.declared.record.Week.{Week}
-use Rattle.week.specs.Record.{maxBatches, maxRecipes, noRecipe, emptyBatch, spanOf, before}
-use Rattle.week.specs.Example.{Example, _is_, same, agree}
-use Rattle.week.specs.Refusal.{refusedIf, orElse, firstOf, first, shortFault, unlessRefused}
-use Rattle.week.specs.Fault.{weekFault, costFault, worthFault, repeatFault, orderFault, batchFault, listFault, nameFault, choiceFault}
+use Rattle.week.specs.Record.{maxBatches, maxRecipes, noRecipe, emptyBatch, spanOf}
+use Rattle.week.specs.Order.{before}
+use Rattle.week.specs.Refusal.{refusedIf, orElse, firstOf, first, shortFault, unlessRefused, answerBy, atPlace}
+use Rattle.judge.specs.Fault.{weekFault, numberFault, orderFault, batchFault, listFault, nameFault, choiceFault}
+use Rattle.judge.specs.BatchFault.{costFault, worthFault}
 use Rattle.planner.specs.declared.check.Checked.{Checked}
 use Rattle.planner.specs.declared.choose.Plan.{Plan}
 use Rattle.planner.specs.declared.run.BatchRun.{BatchRun}
 use Rattle.planner.specs.declared.run.WeekRun.{WeekRun}
 use Rattle.planner.specs.Check.{ruleFault, checkFault, passed, refusedCheck, checkAnswer}
-use Rattle.planner.specs.Choose.{widthOf, tableFault, fillFault, refusedPlan, planOf, chooseAnswer, tableAfter}
+use Rattle.planner.specs.Choose.{widthOf, tableFault, fillFault, chooseFault, refusedPlan, planOf, chooseAnswer, tableAfter}
 use Rattle.planner.specs.Run.{logFault, runFault, weekLog, logAnswer, refusedRun, runAnswer, logAfter}
 
 -- The lists.
@@ -192,9 +196,9 @@ table =
 examples : agree table ≡ true
 unfolding
     table same agree weekW weekE weekG weekJ weekK weekLate weekGap weekAside weekP stretchOf fits nextBound best
-    entries minutesLeft firstOpen logOf idle changesAfter changes upToLast outcomeOf outcomeNumbers
-    choiceLog workloadOf outcomeAt weekLog before refusedIf orElse firstOf first shortFault unlessRefused
-    weekFault costFault worthFault repeatFault orderFault batchFault listFault nameFault choiceFault
-    ruleFault checkFault passed refusedCheck checkAnswer tableFault fillFault refusedPlan planOf chooseAnswer filled tableAfter
+    entries minutesLeft firstPending logOf idle changesAfter changes upToLast outcomeOf outcomeNumbers
+    choiceLog workloadOf outcomeAt weekLog before refusedIf orElse firstOf first someBelow atPlace shortFault unlessRefused answerBy
+    weekFault costFault worthFault numberFault orderFault batchFault listFault nameFault choiceFault
+    ruleFault checkFault passed refusedCheck checkAnswer tableFault fillFault chooseFault refusedPlan planOf chooseAnswer filled tableAfter
     logFault runFault logAnswer refusedRun runAnswer logAfter
 examples = refl

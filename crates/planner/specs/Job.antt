@@ -2,11 +2,13 @@
 use Prim.Native.Nat.{ℕ}
 use mathlib.Core.Bool.{not}
 use mathlib.Core.List.{List}
+use lib.ListN.{take}
 use lib.Dec.{eqb}
+use Rattle.arrays.specs.Made.{tabulate}
 use Rattle.jobs.specs.declared.model.Version.{Version}
 use Rattle.jobs.specs.declared.model.Job.{Job}
 use Rattle.jobs.specs.declared.model.JobList.{JobList}
-use Rattle.jobs.specs.Model.{tabulate, jobsOf}
+use Rattle.jobs.specs.Model.{jobsOf, chosen}
 use Rattle.week.specs.declared.record.Batch.{Batch}
 use Rattle.week.specs.declared.record.Week.{Week}
 use Rattle.week.specs.Record.{maxBatches, maxRecipes, batchAt, recipeAt, readyOf}
@@ -28,3 +30,11 @@ jobListOf w = record { count = w .count; jobs = tabulate (λ i. jobFrom (w .open
 -- the jobs of a week, the last first
 abbrev pub weekJobs : Week → List Job
 weekJobs w = jobsOf (jobListOf w)
+
+-- a choice that is handed in, the last batch's recipe first
+abbrev pub weekChoice : Week → List ℕ → List ℕ
+weekChoice w choice = chosen (jobListOf w) choice
+
+-- the choice that the first n bytes of an array are: one recipe a batch
+abbrev pub listChoice : Week → List ℕ → List ℕ
+listChoice w bytes = take (w .count) bytes

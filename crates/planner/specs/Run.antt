@@ -5,8 +5,9 @@ use mathlib.Core.Bool.{cond}
 use mathlib.Core.List.{List, [], _∷_, _++_}
 use lib.ListN.{length, getD, take, drop, replicate}
 use lib.Dec.{leb, eqb}
-use Rattle.jobs.specs.Model.{atPosition, tabulate, padded}
-use Rattle.jobs.specs.Contract.{stretchAt}
+use Rattle.arrays.specs.Position.{atPosition}
+use Rattle.arrays.specs.Made.{tabulate, padded}
+use Rattle.jobs.specs.Stretches.{stretchAt}
 use Rattle.edf.specs.declared.outcome.Outcome.the-variants.{SetAside}
 use Rattle.edf.specs.declared.workload.Workload.{Workload}
 use Rattle.edf.specs.Run.{Reads, entries, minutesLeft, minutesBefore, idle, changes, upToLast, outcomeNumbers}
@@ -17,8 +18,8 @@ use Rattle.week.specs.declared.refusal.Refusal.{Refusal}
 use Rattle.planner.specs.declared.run.BatchRun.{BatchRun}
 use Rattle.planner.specs.declared.run.WeekRun.{WeekRun}
 use Rattle.week.specs.Record.{maxBatches, batchOf, recipeOf, spanOf, readyOf}
-use Rattle.week.specs.Refusal.{accepted, firstOf, shortFault, unlessRefused}
-use Rattle.week.specs.Fault.{listFault, choiceFault}
+use Rattle.week.specs.Refusal.{accepted, firstOf, shortFault, unlessRefused, answerBy}
+use Rattle.judge.specs.Fault.{handedFaults}
 use Rattle.planner.specs.Job.{jobListOf}
 
 -- "12: log shorter than c − t."
@@ -27,7 +28,7 @@ logFault w size = shortFault 12 (spanOf w) size
 
 -- the refusals of Run in their order
 unfoldable pub runFault : Week → List ℕ → ℕ → Refusal
-runFault w choice size = firstOf (listFault w ∷ choiceFault w choice ∷ logFault w size ∷ [])
+runFault w choice size = firstOf (handedFaults w choice ++ (logFault w size ∷ []))
 
 -- "For each minute from t to c − 1, the station reads the first batch in list order that has s at or before this minute and
 -- minutes left to read."
@@ -55,9 +56,8 @@ refusedRun r = record { refusal = r; idle = 0; changes = 0; batches = replicate 
 
 unfoldable pub runAnswer : Week → List ℕ → ℕ → WeekRun
 runAnswer w choice size =
-    unlessRefused (runFault w choice size)
+    answerBy (runFault w choice size) refusedRun
     (logAnswer (workloadOf (jobListOf w) choice) (w .opening) (weekLog w choice))
-    (refusedRun (runFault w choice size))
 
 -- "Entry m of a lent log of bytes, from 0, is the position of the batch read in minute t + m, or 0 for an idle minute. Bytes
 -- after entry c − t − 1 keep their values." "Only 14 alters lent memory (the picks table)."

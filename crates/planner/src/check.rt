@@ -3,7 +3,7 @@ use crate::job::jobs_of;
 use jobs::rule::Stretch;
 use jobs::rule::stretch_all;
 use jobs::worth::total;
-use week::fault::handed_fault;
+use judge::fault::handed_fault;
 use week::record::Week;
 use week::refusal::Refusal;
 ghost use mathlib.Core.Path.{_≡_};

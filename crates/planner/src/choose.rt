@@ -1,18 +1,17 @@
 // Choose: the recipes of greatest worth that meet the backward rule.
 use crate::job::jobs_of;
-use crate::span::span;
 use jobs::worth::total;
+use judge::fault::list_fault;
 use select::choice::read_off;
 use select::table::fill;
-use week::fault::list_fault;
 use week::record::Week;
 use week::refusal::Refusal;
 ghost use mathlib.Core.Path.{_≡_};
 ghost use mathlib.Core.Logic.{_↔_};
 ghost use lib.ListN.{length};
-ghost use Rattle.week.specs.Fault.{WellFormed};
-ghost use Rattle.planner.specs.Choose.{widthOf, tableFault, fillFault, chooseAnswer, tableAfter, refusedPlan};
-ghost use Rattle.planner.specs.Choose.{Fills, PicksTable, BestPlan, NoPlan, LongEnough};
+ghost use Rattle.judge.specs.Fault.{WellFormed};
+ghost use Rattle.planner.specs.Choose.{widthOf, tableFault, fillFault, chooseAnswer, tableAfter, refusedPlan, FillsTable};
+ghost use Rattle.planner.specs.Choose.{PicksTable, BestPlan, NoPlan, LongTable};
 
 // A table that is long enough for every list: a row for each batch, with an entry for each closing minute, both ends counted.
 pub const MAX_PICKS: usize = Week::MAX_BATCHES * (Week::MAX_MINUTES as usize + 1);
@@ -40,7 +39,7 @@ impl Plan {
 fn row_width(week: Week) -> usize
     ensures { λ r. ⌜ r ≡ widthOf week ⌝ }
 {
-    span(week) + 1
+    week.minutes() + 1
 }
 
 // 11: whether a table of `size` bytes is too short. A quotient is compared, since n × (c − t + 1) could wrap where the list is not
@@ -70,10 +69,10 @@ fn fill_fault(week: Week, size: usize) -> Refusal
 pub fn choose(week: Week, table: &mut [u8]) -> Plan
     ensures answer { λ r. ⌜ r ≡ chooseAnswer week (length (now (table .entry))) ⌝ }
     ensures table { λ _. ⌜ now (table .exit) ≡ tableAfter week (now (table .entry)) ⌝ }
-    ensures picks { λ r. ⌜ (Fills r → PicksTable week (now (table .entry)) (now (table .exit))) ⌝ }
+    ensures picks { λ r. ⌜ (FillsTable r → PicksTable week (now (table .entry)) (now (table .exit))) ⌝ }
     ensures best { λ r. ⌜ (r .refusal .number ≡ 0 → BestPlan week r) ⌝ }
     ensures none { λ r. ⌜ (r .refusal .number ≡ 14)
-        ↔ (WellFormed week × LongEnough week (length (now (table .entry))) × NoPlan week) ⌝ }
+        ↔ (WellFormed week × LongTable week (length (now (table .entry))) × NoPlan week) ⌝ }
 {
     let fault = fill_fault(week, table.len());
     if fault.number != 0 {

@@ -2,5 +2,5 @@
 pub mod check;
 pub mod choose;
 pub mod job;
+pub mod own_memory;
 pub mod run;
-mod span;

@@ -1,6 +1,5 @@
 // Run: the station's week under a choice, minute by minute.
 use crate::job::jobs_of;
-use crate::span::span;
 use edf::log::changes as changes_in;
 use edf::log::entries as entries_in;
 use edf::outcome::Outcome;
@@ -8,7 +7,7 @@ use edf::outcome::outcome_of;
 use edf::run::run as run_station;
 use edf::workload::Workload;
 use edf::workload::workload_of;
-use week::fault::handed_fault;
+use judge::fault::handed_fault;
 use week::record::Week;
 use week::refusal::Refusal;
 ghost use mathlib.Core.Path.{_≡_};
@@ -17,10 +16,9 @@ ghost use lib.ListN.{length};
 ghost use Rattle.jobs.specs.Rule.{meets};
 ghost use Rattle.edf.specs.Workload.{workLog};
 ghost use Rattle.edf.specs.Contract.{Runnable};
-ghost use Rattle.planner.specs.Job.{weekJobs};
-ghost use Rattle.planner.specs.Check.{weekChoice};
-ghost use Rattle.planner.specs.Run.{runFault, setAside, refusedRun, logAnswer, runAnswer, logAfter};
-ghost use Rattle.planner.specs.Run.{StationLog, LogSays, InTime};
+ghost use Rattle.planner.specs.Job.{weekJobs, weekChoice};
+ghost use Rattle.planner.specs.Run.{runFault, setAside, refusedRun, logAnswer, runAnswer, logAfter, StationLog, LogSays};
+ghost use Rattle.planner.specs.Run.{InTime};
 
 // What became of one batch. Run's answer holds one for each place of the list.
 pub struct BatchRun {
@@ -67,7 +65,7 @@ fn run_fault(week: Week, choice: &[u8], size: usize) -> Refusal
     if fault.number != 0 {
         return fault;
     }
-    if size < span(week) {
+    if size < week.minutes() {
         return Refusal::at(12, 0, 0);
     }
     Refusal::none()
@@ -124,6 +122,6 @@ pub fn run(week: Week, choice: &[u8], log: &mut [u8]) -> WeekRun
         return WeekRun::refused(fault);
     }
     let work = workload_of(jobs_of(week), choice);
-    let minutes = span(week);
+    let minutes = week.minutes();
     run_work(work, week.opening, &mut log[0..minutes])
 }

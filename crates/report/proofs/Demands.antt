@@ -3,28 +3,29 @@
 use Prim.Native.Nat.{ℕ, _≤_}
 use native.Mathlib.Decide.{ℕ-discrete}
 use native.Mathlib.Omega.{arith}
-use mathlib.Core.Path.{_≡_, refl, sym, ap, _∙_}
+use mathlib.Core.Path.{_≡_, sym, ap, _∙_}
 use mathlib.Core.Logic.{_↔_}
-use mathlib.Core.List.{List, flatten}
+use mathlib.Core.List.{List, [], _∷_, flatten}
 use Rattle.edf.specs.Run.{idle, changes}
 use Rattle.week.specs.declared.record.Week.{Week}
 use Rattle.week.specs.Record.{maxMinutes}
-use Rattle.week.proofs.First.{number-of, refuses-too, or-first, or-second}
+use Rattle.week.proofs.First.{number-of, refuses-too, append-first, append-last}
 use Rattle.planner.specs.declared.choose.Plan.{Plan}
 use Rattle.planner.specs.Check.{checkAnswer}
-use Rattle.planner.specs.Choose.{maxPicks, weekBest, planChoice, chooseAnswer, BestPlan, NoPlan}
+use Rattle.planner.specs.Choose.{maxPicks, planFault, weekBest, planChoice, chooseAnswer, BestPlan, NoPlan}
 use Rattle.planner.specs.Run.{weekLog, runAnswer}
-use Rattle.planner.proofs.Choosing.{picks-enough, plan-refusal, plan-passed, faultless}
+use Rattle.planner.proofs.Choosing.{picks-enough, fill-faultless, plan-fault, plan-proper}
 use Rattle.planner.proofs.Demands.{choose-best, choose-plans, choose-names, choose-meets}
 use Rattle.sheet.specs.Line.{linesOf}
 use Rattle.sheet.specs.List.{sheetWeek}
-use Rattle.sheet.specs.Read.{readFault, WellWritten}
+use Rattle.sheet.specs.Read.{readFaults, readFault, WellWritten}
+use Rattle.sheet.proofs.OneLine.{lines-flatten}
 use Rattle.sheet.proofs.Demands.{read-passes, read-refusal, read-reads}
 use Rattle.report.specs.Decimal.{decimal, Numeral}
 use Rattle.report.specs.Line.{refusalLine}
 use Rattle.report.specs.Report.{batchAnswer, planLines, weekLines, reportLines, reportOf, LineSays, reportFault}
 use Rattle.report.proofs.Numerals.{numeral}
-use Rattle.report.proofs.Ended.{lines-flatten, report-ones}
+use Rattle.report.proofs.Ended.{report-ones}
 use Rattle.report.proofs.Reporting.{week-refused, week-planned, planned-list, report-refused, report-read}
 use Rattle.report.proofs.Said.{counts-said, line-says}
 
@@ -41,18 +42,16 @@ module _ (sheet : List ℕ) where
 
   -- the sheet is refused, ..
   fault-sheet : (readFault sheet .number ≡ 0 → ⊥) → reportFault sheet ≡ readFault sheet
-  unfolding reportFault
-  fault-sheet n = or-first (readFault sheet) _ n
+  unfolding reportFault readFault
+  fault-sheet = append-first (readFaults sheet) (planFault (weekBest w) ∷ [])
 
   -- .. or its list has no plan
   fault-plan : readFault sheet .number ≡ 0 → reportFault sheet ≡ plan .refusal
-  unfolding reportFault
+  unfolding reportFault readFault
   fault-plan z =
       let list = read-reads sheet .0 (number-of (read-refusal sheet) ∙ z) .list in
-      or-second (readFault sheet) _ z
-      ∙ sym (plan-refusal w (weekBest w))
-      ∙ ap (λ (p : Plan). p .refusal)
-      (sym (plan-passed w maxPicks (faultless w maxPicks .1 (list, picks-enough w maxPicks list (omega arith))) refl))
+      append-last (readFaults sheet) (planFault (weekBest w)) (plan-proper (weekBest w)) z
+      ∙ sym (plan-fault w maxPicks (fill-faultless w maxPicks .1 (list, picks-enough w maxPicks list (omega arith))))
 
   -- a sheet that is read has the report of its list
   lines-read : readFault sheet .number ≡ 0 → reportLines sheet ≡ weekLines w

@@ -2,7 +2,7 @@ pub mod Putting
 pub mod Decimals
 pub mod Numerals
 pub mod Spacing
-pub mod Lines
+pub mod BatchLines
 pub mod Ended
 pub mod Reporting
 pub mod Said

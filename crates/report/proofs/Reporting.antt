@@ -1,54 +1,52 @@
 -- The report's lines: which of the three answers makes them, and that a plan which is chosen can be printed.
 use Prim.Native.Nat.{ℕ}
 use native.Mathlib.Omega.{arith}
-use mathlib.Core.Path.{_≡_, ap, _∙_}
+use mathlib.Core.Path.{_≡_, refl, ap, _∙_}
 use mathlib.Core.Logic.{inl}
 use mathlib.Core.List.{List, flatten}
 use lib.Seq.{getD-take}
+use Rattle.arrays.proofs.Flattened.{flatten-one}
 use Rattle.week.specs.declared.record.Week.{Week}
-use Rattle.week.specs.Fault.{WellFormed}
-use Rattle.week.proofs.First.{number-of, unless-passed, unless-refused}
-use Rattle.week.proofs.Sound.{sound}
+use Rattle.judge.specs.Fault.{WellFormed}
+use Rattle.week.proofs.Answering.{answers}
+use Rattle.judge.proofs.Sound.{sound}
 use Rattle.planner.specs.Choose.{maxPicks, chooseAnswer}
-use Rattle.planner.proofs.Choosing.{faultless, fills-faultless}
+use Rattle.planner.proofs.Choosing.{fill-faultless, fills-faultless}
 use Rattle.planner.proofs.Demands.{choose-names}
 use Rattle.sheet.specs.Read.{readAnswer}
 use Rattle.report.specs.Line.{refusalLine}
 use Rattle.report.specs.Report.{planLines, weekLines, reportLines, reportOf}
 use Rattle.report.specs.Contract.{Printable}
-use Rattle.report.proofs.Lines.{flatten-one}
 
 -- of a list
 module _ (w : Week) where
   pub week-refused : (chooseAnswer w maxPicks .refusal .number ≡ 0 → ⊥) →
       flatten (weekLines w) ≡ refusalLine (chooseAnswer w maxPicks .refusal)
   unfolding weekLines
-  week-refused n = ap flatten (unless-refused (chooseAnswer w maxPicks .refusal) _ _ n) ∙ flatten-one _
+  week-refused n = ap flatten (answers _ _ _ .refused refl n) ∙ flatten-one _
 
   pub week-planned : chooseAnswer w maxPicks .refusal .number ≡ 0 → weekLines w ≡ planLines w (chooseAnswer w maxPicks)
   unfolding weekLines
-  week-planned z = unless-passed (chooseAnswer w maxPicks .refusal) _ _ z
+  week-planned z = answers _ _ _ .passed z
 
   pub planned-list : chooseAnswer w maxPicks .refusal .number ≡ 0 → WellFormed w
-  planned-list z = faultless w maxPicks .0 (fills-faultless w maxPicks .0 (inl z)) .0
+  planned-list z = fill-faultless w maxPicks .0 (fills-faultless w maxPicks .0 (inl z)) .0
 
   pub printable : chooseAnswer w maxPicks .refusal .number ≡ 0 → Printable w (chooseAnswer w maxPicks)
   printable z =
-      let fine = sound w (number-of (planned-list z)) in
+      let fine = sound w (planned-list z) in
       let names = choose-names w maxPicks z in
       record {
         most = fine .most;
-        low = λ i l. omega (arith, names .low i l, getD-take (w .count) (chooseAnswer w maxPicks .choice) i 0 l);
-        high = λ i l.
-            omega (arith, names .high i l, fine .few i l, getD-take (w .count) (chooseAnswer w maxPicks .choice) i 0 l);
+        each = λ i l. omega (arith, names .each i l, fine .few i l, getD-take (w .count) (chooseAnswer w maxPicks .choice) i 0 l);
       }
 
 -- of a sheet
 module _ (sheet : List ℕ) where
   pub report-refused : (readAnswer sheet .refusal .number ≡ 0 → ⊥) → reportOf sheet ≡ refusalLine (readAnswer sheet .refusal)
   unfolding reportLines
-  report-refused n = ap flatten (unless-refused (readAnswer sheet .refusal) _ _ n) ∙ flatten-one _
+  report-refused n = ap flatten (answers _ _ _ .refused refl n) ∙ flatten-one _
 
   pub report-read : readAnswer sheet .refusal .number ≡ 0 → reportLines sheet ≡ weekLines (readAnswer sheet .week)
   unfolding reportLines
-  report-read z = unless-passed (readAnswer sheet .refusal) _ _ z
+  report-read z = answers _ _ _ .passed z

@@ -6,28 +6,28 @@ use mathlib.Core.Bool.{true}
 use mathlib.Core.List.{List, [], _∷_}
 use lib.Seq.{getD-take}
 use borrow.Author.Tests.{eq-eqb}
-use Rattle.jobs.specs.Model.{noJob, atPosition, versionOf, versionAt}
+use Rattle.arrays.specs.Position.{atPosition}
+use Rattle.jobs.specs.Model.{noJob, versionOf, versionAt}
 use Rattle.jobs.specs.Rule.{meets}
-use Rattle.jobs.specs.Contract.{stretchAt}
+use Rattle.jobs.specs.Stretches.{stretchAt}
 use Rattle.edf.specs.declared.outcome.Outcome.{Outcome}
 use Rattle.edf.specs.declared.outcome.Outcome.the-variants.{SetAside, Finished, Unfinished}
 use Rattle.edf.specs.Run.{idle, changes, outcomeNumbers}
 use Rattle.edf.specs.Workload.{workloadOf}
 use Rattle.week.specs.declared.record.Week.{Week}
 use Rattle.week.specs.Record.{maxMinutes}
-use Rattle.week.specs.Fault.{WellFormed}
-use Rattle.week.proofs.First.{number-of}
-use Rattle.week.proofs.Sound.{sound, Named, well-chosen}
+use Rattle.judge.specs.Fault.{WellFormed}
+use Rattle.judge.proofs.Sound.{sound, Named, choice-passes}
 use Rattle.planner.specs.declared.choose.Plan.{Plan}
 use Rattle.planner.specs.declared.run.WeekRun.{WeekRun}
-use Rattle.planner.specs.Job.{jobListOf, weekJobs}
-use Rattle.planner.specs.Check.{weekChoice, passed, checkAnswer}
+use Rattle.planner.specs.Job.{jobListOf, weekJobs, weekChoice}
+use Rattle.planner.specs.Check.{passed, checkAnswer}
 use Rattle.planner.specs.Choose.{planChoice}
 use Rattle.planner.specs.Run.{weekLog, setAside, logAnswer, runAnswer, chosenMinutes, outcomeSaid}
-use Rattle.planner.proofs.Running.{log-enough, run-faultless, run-passed}
+use Rattle.planner.proofs.Running.{log-enough, run-faultless, run-answers}
 use Rattle.planner.proofs.Station.{take-week}
 use Rattle.planner.proofs.Outcomes.{log-says, finished}
-use Rattle.planner.proofs.Written.{version-cost}
+use Rattle.planner.proofs.AsWritten.{version-cost}
 use Rattle.planner.proofs.Demands.{check-passes}
 use Rattle.report.specs.Report.{finishOf, batchAnswer, LineSays}
 
@@ -50,12 +50,12 @@ module _
     ran = runAnswer w choice maxMinutes
 
     checked : checkAnswer w choice ≡ passed w choice
-    checked = check-passes w choice list (well-chosen w names) meeting
+    checked = check-passes w choice list (choice-passes w choice .1 names) meeting
 
     ran-log : ran ≡ logAnswer (workloadOf (jobListOf w) choice) (w .opening) (weekLog w choice)
     ran-log =
-        run-passed w choice maxMinutes
-        (run-faultless w choice maxMinutes .1 (list, well-chosen w names, log-enough w maxMinutes list (omega arith)))
+        run-answers w choice maxMinutes .passed
+        (run-faultless w choice maxMinutes .1 (list, choice-passes w choice .1 names, log-enough w maxMinutes list (omega arith)))
 
     pub counts-said : (ran .changes ≡ changes (weekLog w choice)) × (ran .idle ≡ idle (weekLog w choice))
     unfolding logAnswer
@@ -69,14 +69,14 @@ module _
     cost-at : (i : ℕ) → 1 ≤ i → i ≤ w .count → versionAt (jobListOf w) (plan .choice) i .cost ≡ chosenMinutes w choice i
     cost-at i low high =
         ap (λ (k : ℕ). versionOf (atPosition noJob (jobListOf w .jobs) i) k .cost) (recipe-at i low high)
-        ∙ version-cost w (sound w (number-of list)) names i low high
+        ∙ version-cost w (sound w list) names i low high
 
     -- what Run says of position i
     said : (i : ℕ) → 1 ≤ i → i ≤ w .count →
         outcomeNumbers (atPosition setAside (ran .batches) i .outcome) ≡ outcomeSaid w choice (weekLog w choice) i
     said i low high =
         rw ran-log
-        (log-says w (sound w (number-of list)) choice names [] .outcome i low high
+        (log-says w (sound w list) choice names [] .outcome i low high
         ∙ ap (λ (log : List ℕ). outcomeSaid w choice log i) (take-week w choice []))
 
     aside-said : (i : ℕ) → chosenMinutes w choice i ≡ 0 → outcomeSaid w choice (weekLog w choice) i ≡ 0 ∷ 0 ∷ []
@@ -86,7 +86,7 @@ module _
         (f : ℕ)
         × (outcomeNumbers (atPosition setAside (ran .batches) i .outcome) ≡ 1 ∷ f ∷ [])
         × (f ≤ stretchAt (jobListOf w) choice (w .closing) i .end)
-    by-stretch = rw ran-log (finished w (sound w (number-of list)) choice names meeting)
+    by-stretch = rw ran-log (finished w (sound w list) choice names meeting)
 
     pub line-says : (i : ℕ) → 1 ≤ i → i ≤ w .count → LineSays w choice i (batchAnswer w plan (checkAnswer w choice) ran i)
     unfolding batchAnswer passed

@@ -1,8 +1,9 @@
 -- What the report's functions ask and answer.
-use Prim.Native.Nat.{ℕ, _+_, _*_, _≤_, _<_}
+use Prim.Native.Nat.{ℕ, _+_, _*_, _≤_}
 use mathlib.Core.Path.{_≡_}
 use mathlib.Core.List.{List, _++_}
-use lib.ListN.{length, getD, take, drop}
+use lib.ListN.{length, take, drop}
+use Rattle.arrays.specs.Each.{OneOfEach}
 use Rattle.week.specs.declared.record.Week.{Week}
 use Rattle.week.specs.Record.{maxBatches, maxRecipes}
 use Rattle.planner.specs.declared.choose.Plan.{Plan}
@@ -31,5 +32,4 @@ pub record Puts (before : List ℕ) (at : ℕ) (part after : List ℕ) (end : �
 -- a list and a plan whose lines can be made: each batch has a place, and a recipe that is numbered as recipes are
 pub record Printable (w : Week) (plan : Plan) : Type 0 where
   pub most : w .count ≤ maxBatches
-  pub low : (i : ℕ) → i < w .count → 1 ≤ getD (plan .choice) i 0
-  pub high : (i : ℕ) → i < w .count → getD (plan .choice) i 0 ≤ maxRecipes
+  pub each : OneOfEach (w .count) (λ i. maxRecipes) (plan .choice)

@@ -4,16 +4,18 @@ use Prim.Native.String.{String}
 use mathlib.Core.Path.{_≡_, refl}
 use mathlib.Core.Bool.{true}
 use mathlib.Core.List.{List, [], _∷_, flatten}
+use Rattle.arrays.specs.Each.{someBelow}
+use Rattle.arrays.specs.Example.{Example, _is_, same, agree}
 use Rattle.jobs.specs.Rule.{stretchOf, fits, nextBound}
 use Rattle.jobs.specs.Best.{best}
-use Rattle.edf.specs.Run.{entries, minutesLeft, firstOpen, logOf, idle, changesAfter, changes, upToLast, outcomeOf}
+use Rattle.edf.specs.Run.{entries, minutesLeft, firstPending, logOf, idle, changesAfter, changes, upToLast, outcomeOf}
 use Rattle.edf.specs.Workload.{choiceLog, workloadOf, outcomeAt}
-use Rattle.week.specs.Record.{before}
-use Rattle.week.specs.Example.{Example, _is_, same, agree}
-use Rattle.week.specs.Refusal.{refusedIf, orElse, firstOf, first, shortFault, unlessRefused}
-use Rattle.week.specs.Fault.{weekFault, costFault, worthFault, repeatFault, orderFault, batchFault, listFault, nameFault, choiceFault}
+use Rattle.week.specs.Order.{before}
+use Rattle.week.specs.Refusal.{refusedIf, orElse, firstOf, first, shortFault, unlessRefused, answerBy, atPlace}
+use Rattle.judge.specs.Fault.{weekFault, numberFault, orderFault, batchFault, listFault, nameFault, choiceFault}
+use Rattle.judge.specs.BatchFault.{costFault, worthFault}
 use Rattle.planner.specs.Check.{ruleFault, checkFault, passed, refusedCheck, checkAnswer}
-use Rattle.planner.specs.Choose.{tableFault, fillFault, refusedPlan, planOf, chooseAnswer}
+use Rattle.planner.specs.Choose.{tableFault, chooseFault, refusedPlan, planOf, chooseAnswer}
 use Rattle.planner.specs.Run.{logFault, runFault, weekLog, logAnswer, refusedRun, runAnswer}
 use Rattle.sheet.specs.Text.{bytes}
 use Rattle.sheet.specs.Hex.{isDigit, digitOf, byteAt, wordAt}
@@ -48,10 +50,10 @@ table =
 examples : agree table ≡ true
 unfolding
     table same agree flatten stretchOf fits nextBound best
-    entries minutesLeft firstOpen logOf idle changesAfter changes upToLast outcomeOf choiceLog workloadOf outcomeAt
-    before refusedIf orElse firstOf first shortFault unlessRefused
-    weekFault costFault worthFault repeatFault orderFault batchFault listFault nameFault choiceFault
-    ruleFault checkFault passed refusedCheck checkAnswer tableFault fillFault refusedPlan planOf chooseAnswer
+    entries minutesLeft firstPending logOf idle changesAfter changes upToLast outcomeOf choiceLog workloadOf outcomeAt
+    before refusedIf orElse firstOf first someBelow atPlace shortFault unlessRefused answerBy
+    weekFault costFault worthFault numberFault orderFault batchFault listFault nameFault choiceFault
+    ruleFault checkFault passed refusedCheck checkAnswer tableFault chooseFault refusedPlan planOf chooseAnswer
     logFault runFault weekLog logAnswer refusedRun runAnswer
     isDigit digitOf byteAt wordAt isWeek isBatch frameOf
     sizeFault frameFault lineFault linesFault batchFrom weekFrom readFault refusedReading readAnswer

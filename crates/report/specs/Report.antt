@@ -3,14 +3,16 @@ use Prim.Native.Nat.{ℕ, suc, _≤_}
 use mathlib.Core.Path.{_≡_}
 use mathlib.Core.List.{List, [], _∷_, _++_, flatten}
 use lib.ListN.{length, drop}
-use Rattle.jobs.specs.Model.{atPosition, tabulate, versionAt}
-use Rattle.jobs.specs.Contract.{noStretch, stretchAt}
+use Rattle.arrays.specs.Position.{atPosition}
+use Rattle.arrays.specs.Made.{tabulate}
+use Rattle.jobs.specs.Model.{versionAt}
+use Rattle.jobs.specs.Stretches.{noStretch, stretchAt}
 use Rattle.edf.specs.declared.outcome.Outcome.{Outcome}
 use Rattle.edf.specs.declared.outcome.Outcome.the-variants.{SetAside, Finished, Unfinished}
 use Rattle.week.specs.declared.record.Week.{Week}
 use Rattle.week.specs.declared.refusal.Refusal.{Refusal}
 use Rattle.week.specs.Record.{maxMinutes, batchOf}
-use Rattle.week.specs.Refusal.{orElse, unlessRefused}
+use Rattle.week.specs.Refusal.{firstOf, answerBy}
 use Rattle.planner.specs.declared.check.Checked.{Checked}
 use Rattle.planner.specs.declared.choose.Plan.{Plan}
 use Rattle.planner.specs.declared.run.WeekRun.{WeekRun}
@@ -19,7 +21,7 @@ use Rattle.planner.specs.Check.{checkAnswer}
 use Rattle.planner.specs.Choose.{maxPicks, planFault, weekBest, planChoice, chooseAnswer}
 use Rattle.planner.specs.Run.{setAside, weekLog, runAnswer, chosenMinutes, outcomeSaid}
 use Rattle.sheet.specs.List.{sheetWeek}
-use Rattle.sheet.specs.Read.{readFault, readAnswer}
+use Rattle.sheet.specs.Read.{readFaults, readAnswer}
 use Rattle.report.specs.declared.line.BatchLine.{BatchLine}
 use Rattle.report.specs.Line.{weekLine, totalLine, batchLine, refusalLine}
 
@@ -52,17 +54,21 @@ planLines w plan =
     let ran = runAnswer w (planChoice w plan) maxMinutes in
     weekLine w ∷ totalLine (plan .total) (ran .changes) (ran .idle) ∷ batchLines w plan checked ran (w .count)
 
+-- of a refusal: one line only
+abbrev pub refusalLines : Refusal → List (List ℕ)
+refusalLines r = refusalLine r ∷ []
+
 -- of a list: Choose, with a table that is long enough for every list
 unfoldable pub weekLines : Week → List (List ℕ)
 weekLines w =
     let plan = chooseAnswer w maxPicks in
-    unlessRefused (plan .refusal) (planLines w plan) (refusalLine (plan .refusal) ∷ [])
+    answerBy (plan .refusal) refusalLines (planLines w plan)
 
 -- of a sheet
 unfoldable pub reportLines : List ℕ → List (List ℕ)
 reportLines sheet =
     let reading = readAnswer sheet in
-    unlessRefused (reading .refusal) (weekLines (reading .week)) (refusalLine (reading .refusal) ∷ [])
+    answerBy (reading .refusal) refusalLines (weekLines (reading .week))
 
 -- "It writes the whole of": the lines, one after the other
 abbrev pub reportOf : List ℕ → List ℕ
@@ -87,4 +93,4 @@ pub record LineSays (w : Week) (choice : List ℕ) (i : ℕ) (line : BatchLine) 
 -- the refusals of a report in their order: "Order: 18; then line by line 16, 17; then 1, 2, 3; then batch by batch 4 to 10 ..;
 -- then 14". What 11, 12, 13 and 19 ask of a caller does not arise.
 unfoldable pub reportFault : List ℕ → Refusal
-reportFault sheet = orElse (readFault sheet) (planFault (weekBest (sheetWeek sheet)))
+reportFault sheet = firstOf (readFaults sheet ++ (planFault (weekBest (sheetWeek sheet)) ∷ []))

@@ -8,38 +8,19 @@ use edf::outcome::Outcome;
 use jobs::model::JobList;
 use planner::check::Checked;
 use planner::check::check;
-use planner::choose::MAX_PICKS;
 use planner::choose::Plan;
-use planner::choose::choose;
 use planner::job::jobs_of;
+use planner::own_memory::choose_week;
+use planner::own_memory::run_week;
 use planner::run::WeekRun;
-use planner::run::run;
 use week::record::Week;
 ghost use mathlib.Core.Path.{_≡_};
 ghost use mathlib.Core.List.{flatten};
 ghost use Prim.Native.Nat.{suc, _+_, _*_, _≤_, _<_};
 ghost use lib.ListN.{length};
-ghost use Rattle.week.specs.Record.{maxMinutes};
 ghost use Rattle.planner.specs.Job.{jobListOf};
-ghost use Rattle.planner.specs.Choose.{maxPicks};
 ghost use Rattle.report.specs.Report.{finishOf, batchAnswer, batchLines, planLines, weekLines};
 ghost use Rattle.report.specs.Contract.{batchWidth, maxText, Puts, Printable};
-
-// A log that is long enough for every week.
-const MAX_LOG: usize = Week::MAX_MINUTES as usize;
-
-// Made apart, so that their callers know of them how long they are and no more.
-fn picks_table() -> [u8; MAX_PICKS]
-    ensures { λ r. ⌜ maxPicks ≡ length r ⌝ }
-{
-    [0; MAX_PICKS]
-}
-
-fn station_log() -> [u8; MAX_LOG]
-    ensures { λ r. ⌜ maxMinutes ≡ length r ⌝ }
-{
-    [0; MAX_LOG]
-}
 
 // Document 01: "finish (0 if set aside)". No batch of a plan is unfinished.
 fn finish_of(outcome: Outcome) -> u16
@@ -111,8 +92,7 @@ fn plan_text(text: &mut [u8], week: Week, plan: Plan) -> usize
     let choice = plan.choice;
     let n = week.count;
     let checked = check(week, &choice[0..n]);
-    let mut log = station_log();
-    let ran = run(week, &choice[0..n], &mut log);
+    let ran = run_week(week, &choice[0..n]);
     let mut end = week_line(&mut *text, week);
     end = total_line(&mut *text, end, plan.total, ran.changes, ran.idle);
     batch_lines(text, end, week, plan, checked, ran)
@@ -123,8 +103,7 @@ pub(crate) fn week_text(text: &mut [u8], week: Week) -> usize
     requires { ⌜ maxText ≤ length (now text) ⌝ }
     ensures { λ end. ⌜ Puts (now (text .entry)) 0 (flatten (weekLines week)) (now (text .exit)) end ⌝ }
 {
-    let mut table = picks_table();
-    let plan = choose(week, &mut table);
+    let plan = choose_week(week);
     let fault = plan.refusal;
     if fault.number != 0 {
         return refusal_line(text, fault);

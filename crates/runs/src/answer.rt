@@ -1,6 +1,6 @@
 // What a case is answered, with its log.
 use crate::case::Case;
-use crate::case::PLACES;
+use crate::case::MOST_BATCHES;
 use crate::case::week;
 use edf::outcome::Outcome;
 use planner::run::WeekRun;
@@ -83,7 +83,7 @@ fn outcomes(run: WeekRun) -> [OutcomeNumbers; Week::MAX_BATCHES] {
     all
 }
 
-fn run_week(w: Week, choice: [u8; PLACES], named: usize, size: usize) -> Answer
+fn run_week(w: Week, choice: [u8; MOST_BATCHES], named: usize, size: usize) -> Answer
     requires { ⌜ (named ≤ maxBatches + 1) × (size ≤ maxMinutes + 4) ⌝ }
 {
     let mut log = [MARK; LOG];
@@ -113,7 +113,7 @@ pub fn run_of(c: Case) -> Answer {
     run_week(
         week(c),
         recipes,
-        within(c.named, PLACES),
+        within(c.named, MOST_BATCHES),
         within(c.size, LOG),
     )
 }

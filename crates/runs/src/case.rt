@@ -3,8 +3,8 @@ use week::record::Batch;
 use week::record::Recipe;
 use week::record::Week;
 
-// One place more than a list can have.
-pub const PLACES: usize = Week::MAX_BATCHES + 1;
+// One batch more than a list can have.
+pub const MOST_BATCHES: usize = Week::MAX_BATCHES + 1;
 
 // The second cost of a batch that has one recipe.
 pub const NONE: u16 = 65535;
@@ -25,8 +25,8 @@ pub struct Case {
     pub count: u16,
     pub named: u16,
     pub size: u16,
-    pub batches: [CaseBatch; PLACES],
-    pub recipes: [u8; PLACES],
+    pub batches: [CaseBatch; MOST_BATCHES],
+    pub recipes: [u8; MOST_BATCHES],
 }
 
 fn batch(given: CaseBatch) -> Batch {

@@ -1,8 +1,8 @@
 // Document 01's examples of the run, and the edges of its text and of its refusals.
 use crate::case::Case;
 use crate::case::CaseBatch;
+use crate::case::MOST_BATCHES;
 use crate::case::NONE;
-use crate::case::PLACES;
 use crate::expected::between;
 use crate::judge::judge;
 use crate::show::show;
@@ -27,8 +27,8 @@ fn pair(opening: u16, closing: u16, first: CaseBatch, second: CaseBatch) -> Case
         count: 2,
         named: 2,
         size: between(opening, closing) + 1,
-        batches: [second; PLACES],
-        recipes: [1; PLACES],
+        batches: [second; MOST_BATCHES],
+        recipes: [1; MOST_BATCHES],
     };
     c.batches[0] = first;
     c

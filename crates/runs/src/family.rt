@@ -1,7 +1,7 @@
 // All lists of two batches in the week of 1 to 6, where a batch with its recipe is one of 144.
 use crate::case::Case;
 use crate::case::CaseBatch;
-use crate::case::PLACES;
+use crate::case::MOST_BATCHES;
 use crate::judge::judge;
 use crate::tally::Tally;
 ghost use Prim.Native.Nat.{_+_, _≤_};
@@ -46,8 +46,8 @@ fn case_of(first: u16, second: u16) -> Case {
         count: 2,
         named: 2,
         size: 6,
-        batches: [batch_of(9, due, first); PLACES],
-        recipes: [recipe(first); PLACES],
+        batches: [batch_of(9, due, first); MOST_BATCHES],
+        recipes: [recipe(first); MOST_BATCHES],
     };
     c.batches[1] = batch_of(8, due_of(due, second), second);
     c.recipes[1] = recipe(second);

@@ -1,8 +1,8 @@
 // Generated weeks, of up to 16 batches and mostly of up to 48 minutes, with a choice and a log. Their lists are well formed.
 use crate::case::Case;
 use crate::case::CaseBatch;
+use crate::case::MOST_BATCHES;
 use crate::case::NONE;
-use crate::case::PLACES;
 use crate::chance::below;
 use crate::judge::judge;
 use crate::tally::Tally;
@@ -13,7 +13,7 @@ ghost use Rattle.week.specs.Record.{maxBatches, maxMinutes};
 const WEEKS: u16 = 4000;
 
 // The minutes of a week: now and then up to as many as it may have.
-fn span(week: u16) -> u16
+fn minutes_of(week: u16) -> u16
     ensures { λ r. ⌜ (1 ≤ r) × (r ≤ maxMinutes) ⌝ }
 {
     if below(week, 0, 0, 32) == 0 {
@@ -25,7 +25,7 @@ fn span(week: u16) -> u16
 fn batches(week: u16) -> u16
     ensures { λ r. ⌜ r ≤ maxBatches ⌝ }
 {
-    below(week, 0, 2, PLACES as u16)
+    below(week, 0, 2, MOST_BATCHES as u16)
 }
 
 fn opening(week: u16) -> u16
@@ -40,7 +40,7 @@ fn opening(week: u16) -> u16
 // The minute after which the first batch is due. It can be due before the opening.
 fn first(week: u16) -> u16 {
     let t = opening(week);
-    let by = below(week, 0, 8, span(week) + 8);
+    let by = below(week, 0, 8, minutes_of(week) + 8);
     if t < 8 {
         return by;
     }
@@ -59,7 +59,7 @@ fn later(due: u16, by: u16) -> u16 {
 // An arrival before the batch is due and before the close, and often before the opening.
 fn arrival(week: u16, place: u16, due: u16, closing: u16) -> u16 {
     let before = if due < closing { due } else { closing };
-    let back = 1 + below(week, place, 3, span(week) + 4);
+    let back = 1 + below(week, place, 3, minutes_of(week) + 4);
     if back < before { before - back } else { 0 }
 }
 
@@ -70,7 +70,7 @@ fn cost(week: u16, place: u16) -> u16
     if below(week, place, 1, 64) == 0 {
         return 65535 - below(week, place, 2, 1000);
     }
-    1 + below(week, place, 2, span(week) / 4 + 2)
+    1 + below(week, place, 2, minutes_of(week) / 4 + 2)
 }
 
 fn recipes(week: u16, place: u16) -> u16
@@ -130,31 +130,31 @@ fn named(week: u16) -> u16 {
 // The bytes of the log: now and then too few.
 fn size(week: u16) -> u16 {
     if below(week, 0, 6, 12) == 0 {
-        return below(week, 0, 7, span(week));
+        return below(week, 0, 7, minutes_of(week));
     }
-    span(week) + below(week, 0, 7, 4)
+    minutes_of(week) + below(week, 0, 7, 4)
 }
 
 // The case before its batches.
 fn head(week: u16) -> Case {
     let opening = opening(week);
-    let closing = opening + span(week);
+    let closing = opening + minutes_of(week);
     Case {
         opening,
         closing,
         count: batches(week),
         named: named(week),
         size: size(week),
-        batches: [batch_of(week, 0, 1, closing); PLACES],
-        recipes: [0; PLACES],
+        batches: [batch_of(week, 0, 1, closing); MOST_BATCHES],
+        recipes: [0; MOST_BATCHES],
     }
 }
 
 fn case_of(week: u16) -> Case {
     let mut c = head(week);
     let mut due = first(week);
-    for i in 0..(PLACES as u16) {
-        due = later(due, below(week, i + 1, 6, span(week) / 4 + 2));
+    for i in 0..(MOST_BATCHES as u16) {
+        due = later(due, below(week, i + 1, 6, minutes_of(week) / 4 + 2));
         c.batches[i as usize] = batch_of(week, i + 1, due, c.closing);
         c.recipes[i as usize] = recipe(week, i + 1);
     }

@@ -7,12 +7,14 @@ use mathlib.Core.Path.{_≡_, sym, ap, ap₂, _∙_}
 use mathlib.Core.List.{List, _++_}
 use lib.ListN.{length, getD, take, drop, List·getD-append}
 use lib.Seq.{getD-append-add, getD-take, take-at}
+use Rattle.arrays.specs.Position.{backward}
+use Rattle.arrays.proofs.Places.{length-backward}
+use Rattle.arrays.proofs.Tabulates.{tabulate-from}
+use Rattle.arrays.proofs.Front.{later-kept}
 use Rattle.jobs.specs.declared.model.Job.{Job}
 use Rattle.jobs.specs.declared.model.JobList.{JobList}
-use Rattle.jobs.specs.Model.{noJob, backward, jobsOf}
+use Rattle.jobs.specs.Model.{noJob, jobsOf}
 use Rattle.jobs.specs.Best.{pick}
-use Rattle.jobs.proofs.Places.{length-backward, tabulate-from}
-use Rattle.jobs.proofs.Front.{later-kept}
 use Rattle.select.specs.Table.{picks, filled, entryAt}
 use Rattle.select.proofs.Picks.{length-picks}
 

@@ -1,13 +1,11 @@
-pub mod Patches
-pub mod Maps
 pub mod Words
-pub mod Answers
+pub mod OfferAnswers
 pub mod Offers
-pub mod Resets
 pub mod Cells
 pub mod Rows
 pub mod RowStep
 pub mod RowEnd
+pub mod BestChoices
 pub mod Picks
 pub mod Tables
 pub mod Entries

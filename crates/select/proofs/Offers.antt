@@ -9,17 +9,17 @@ use mathlib.Core.Bool.{Bool, true, false, cond}
 use mathlib.Core.List.{List}
 use lib.ListN.{length, getD}
 use borrow.Author.Tests.{le-leb, ne-eqb}
+use Rattle.arrays.proofs.Cases.{cond-both}
+use Rattle.arrays.proofs.Patches.{patched-same, patched-widen}
 use Rattle.jobs.specs.declared.model.Version.{Version}
 use Rattle.jobs.specs.declared.model.Job.{Job}
-use Rattle.jobs.specs.Model.{versionOf}
+use Rattle.jobs.specs.Model.{versionOf, minutesOf}
 use Rattle.jobs.specs.Rule.{endOf, fits, nextBound}
-use Rattle.jobs.proofs.Cases.{cond-both}
 use Rattle.jobs.proofs.Rules.{fits-read, bound-read, bound-aside}
 use Rattle.select.specs.Word.{wordOf, raised}
-use Rattle.select.specs.Row.{Starts, offered, minutesOf, firstOffer, shifted, dueEntry, dueOffer, Taken}
-use Rattle.select.proofs.Patches.{patched-same, patched-widen}
+use Rattle.select.specs.Row.{Starts, offered, firstOffer, shifted, dueEntry, dueOffer, Taken}
 use Rattle.select.proofs.Words.{raised-low}
-use Rattle.select.proofs.Answers.{minutes-read, first-aside, first-early, first-late, due-passes, due-fails}
+use Rattle.select.proofs.OfferAnswers.{minutes-read, first-aside, first-early, first-late, due-passes, due-fails}
 
 -- version k, which is v
 module _ (j : Job) (k t : ℕ) (scores : List ℕ) {v : Version} (is : v ≡ versionOf j k) where

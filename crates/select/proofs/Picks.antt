@@ -5,11 +5,14 @@ use mathlib.Core.Path.{_≡_, sym, _∙_}
 use mathlib.Core.List.{List, [], _∷_, _++_, append-assoc}
 use lib.ListN.{length, take, drop, length-append}
 use lib.Seq.{take-at, drop-at, drop-drop}
+use Rattle.arrays.specs.Made.{tabulate}
+use Rattle.arrays.proofs.Places.{length-backward}
+use Rattle.arrays.proofs.Tabulates.{length-tabulate}
+use Rattle.arrays.proofs.Front.{length-kept}
 use Rattle.jobs.specs.declared.model.Job.{Job}
-use Rattle.jobs.specs.Model.{tabulate}
+use Rattle.jobs.specs.declared.model.JobList.{JobList}
+use Rattle.jobs.specs.Model.{noJob, jobsOf}
 use Rattle.jobs.specs.Best.{pick}
-use Rattle.jobs.proofs.Places.{length-tabulate}
-use Rattle.jobs.proofs.Front.{length-kept}
 use Rattle.select.specs.Table.{picks, filled}
 
 pub length-picks : (js : List Job) (t w : ℕ) → length (picks js t w) ≡ length js * w
@@ -20,6 +23,12 @@ pub length-filled : (js : List Job) (t w : ℕ) (table : List ℕ) → length js
     length (filled js t w table) ≡ length table
 unfolding filled
 length-filled js t w table long = length-kept (picks js t w) table (length js * w) (length-picks js t w) long
+
+-- the same of the jobs of a list
+pub filled-size : (list : JobList) (t w : ℕ) (table : List ℕ) → list .count * w ≤ length table →
+    length (filled (jobsOf list) t w table) ≡ length table
+filled-size list t w table long =
+    length-filled (jobsOf list) t w table (rw (length-backward noJob (list .jobs) (list .count)) long)
 
 pub filled-none : (t w : ℕ) (table : List ℕ) → filled [] t w table ≡ table
 unfolding filled

@@ -6,15 +6,15 @@ use mathlib.Core.Path.{_≡_, refl, sym, ap, _∙_}
 use mathlib.Core.List.{List, _∷_, map}
 use lib.ListN.{length, getD, length-map}
 use lib.Seq.{ext-getD}
+use Rattle.arrays.proofs.Tabulates.{length-tabulate, tabulate-from}
+use Rattle.arrays.proofs.Patches.{patched-all}
+use Rattle.arrays.proofs.Maps.{map-at}
 use Rattle.jobs.specs.declared.model.Job.{Job}
 use Rattle.jobs.specs.Choice.{total}
 use Rattle.jobs.specs.Best.{pick}
-use Rattle.jobs.proofs.Places.{length-tabulate, tabulate-from}
 use Rattle.jobs.proofs.Programme.{best-step}
 use Rattle.select.specs.Word.{radix, wordBy, scorePart, versionPart}
 use Rattle.select.specs.Row.{score, Taken, Scored, FilledRow}
-use Rattle.select.proofs.Patches.{patched-all}
-use Rattle.select.proofs.Maps.{map-at}
 use Rattle.select.proofs.Words.{word-some, word-score, word-version}
 use Rattle.select.proofs.Cells.{bestOf, last-best}
 use Rattle.select.proofs.Rows.{Ready, Bounded, wordAt, at-early, at-late, Row}

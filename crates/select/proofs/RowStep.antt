@@ -8,16 +8,16 @@ use mathlib.Core.Logic.{_⊎_, inl, inr, ⊎-elim}
 use mathlib.Core.Bool.{Bool, true, false, cond}
 use mathlib.Core.List.{List}
 use lib.ListN.{length, getD}
+use Rattle.arrays.proofs.Cases.{cond-both}
+use Rattle.arrays.proofs.Patches.{patched-all}
 use Rattle.jobs.specs.declared.model.Version.{Version}
 use Rattle.jobs.specs.declared.model.Job.{Job}
-use Rattle.jobs.specs.Model.{versionOf}
-use Rattle.jobs.proofs.Cases.{cond-both}
+use Rattle.jobs.specs.Model.{versionOf, minutesOf}
 use Rattle.select.specs.Word.{wordOf, wordLimit}
-use Rattle.select.specs.Row.{offered, minutesOf, firstOffer, shifted, dueOffer, Taken}
-use Rattle.select.proofs.Patches.{patched-all}
-use Rattle.select.proofs.Answers.{due-fails}
-use Rattle.select.proofs.Offers.{offered-low, offered-level, offered-before, offered-from}
-use Rattle.select.proofs.Offers.{begins-high, offer-taken, due-offered}
+use Rattle.select.specs.Row.{offered, firstOffer, shifted, dueOffer, Taken}
+use Rattle.select.proofs.OfferAnswers.{due-fails}
+use Rattle.select.proofs.Offers.{offered-low, offered-level, offered-before, offered-from, begins-high, offer-taken}
+use Rattle.select.proofs.Offers.{due-offered}
 use Rattle.select.proofs.Cells.{cell-step}
 use Rattle.select.proofs.Rows.{Ready, Bounded, wordAt, at-early, at-late, Row, limited}
 

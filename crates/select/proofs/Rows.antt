@@ -8,12 +8,12 @@ use mathlib.Core.List.{List, _∷_}
 use lib.ListN.{length, getD, replicate, length-replicate}
 use lib.Dec.{ltb}
 use borrow.Author.Tests.{lt-ltb, le-ltb}
+use Rattle.arrays.proofs.Places.{replicate-low}
 use Rattle.jobs.specs.declared.model.Job.{Job}
 use Rattle.jobs.specs.Model.{maxVersions}
 use Rattle.jobs.specs.Choice.{total}
 use Rattle.select.specs.Word.{wordBy, maxWord, wordLimit, Low, Packable}
 use Rattle.select.specs.Row.{Starts, dueEntry, Scored}
-use Rattle.select.proofs.Resets.{replicate-low}
 use Rattle.select.proofs.Cells.{bestOf}
 
 -- what is known of a job, of the entry e of its due minute, and of the scores of the jobs before, which start at entry f

@@ -7,17 +7,17 @@ use mathlib.Core.Path.{_≡_, refl, sym, ap, _∙_}
 use mathlib.Core.List.{List, [], _∷_, _++_}
 use lib.Seq.{take-at}
 use lib.ListN.{length, getD, take, drop, replicate, length-append, length-take, length-drop, length-replicate, getD-replicate}
+use Rattle.arrays.specs.Position.{backward}
+use Rattle.arrays.proofs.Places.{length-backward, replicate-low}
 use Rattle.jobs.specs.declared.model.Job.{Job}
 use Rattle.jobs.specs.declared.model.JobList.{JobList}
-use Rattle.jobs.specs.Model.{maxJobs, noJob, backward, jobsOf}
+use Rattle.jobs.specs.Model.{maxJobs, noJob, jobsOf}
 use Rattle.jobs.specs.Best.{best}
-use Rattle.jobs.proofs.Places.{length-backward}
 use Rattle.select.specs.Word.{radix, maxWord, Low, Packable}
 use Rattle.select.specs.Row.{rowLength, score, Starts, Scored, FilledRow}
 use Rattle.select.specs.Table.{filled}
 use Rattle.select.specs.Contract.{Fillable}
 use Rattle.select.proofs.Picks.{length-filled, filled-none, filled-more}
-use Rattle.select.proofs.Resets.{replicate-low}
 
 -- what the jobs js leave: their scores, which start at entry f, and their rows of picks in a table that was table₀
 pub record AfterJobs (js : List Job) (t w f : ℕ) (table₀ scores table : List ℕ) : Type 0 where

@@ -7,18 +7,19 @@ use mathlib.Core.List.{List, _∷_, _++_, append-assoc}
 use mathlib.Core.Option.{Option, none, some}
 use lib.ListN.{length, getD, take, drop, set, replicate, length-set}
 use lib.Seq.{length-take-le, set-split, drop-at}
+use Rattle.arrays.specs.Position.{backward, forward}
+use Rattle.arrays.proofs.Places.{length-forward, drop-replicate}
 use Rattle.jobs.specs.declared.model.Version.{Version}
 use Rattle.jobs.specs.declared.model.Job.{Job}
 use Rattle.jobs.specs.declared.model.JobList.{JobList}
 use Rattle.jobs.specs.declared.rule.Stretch.{Stretch}
-use Rattle.jobs.specs.Model.{maxJobs, maxVersions, noJob, versionOf, backward, forward, jobsOf}
+use Rattle.jobs.specs.Model.{maxJobs, maxVersions, noJob, versionOf, jobsOf}
 use Rattle.jobs.specs.Rule.{stretchOf, fits, nextBound}
 use Rattle.jobs.specs.Best.{best, pick}
-use Rattle.jobs.proofs.Places.{length-forward, drop-replicate}
 use Rattle.jobs.proofs.Rules.{bound-in}
-use Rattle.jobs.proofs.Demand.{best-some}
+use Rattle.jobs.proofs.BestOfAll.{best-some}
 use Rattle.jobs.proofs.Parts.{Parts, pick-none, pick-some}
-use Rattle.jobs.proofs.Arrays.{length-choice}
+use Rattle.jobs.proofs.ChoiceArrays.{length-choice}
 use Rattle.select.specs.declared.choice.BestChoice.{BestChoice}
 use Rattle.select.specs.Table.{entryAt}
 use Rattle.select.specs.Contract.{Readable, bestChoice}

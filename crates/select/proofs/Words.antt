@@ -7,11 +7,11 @@ use mathlib.Core.List.{List, [], _∷_}
 use mathlib.Core.Option.{Option, none, some}
 use lib.Dec.{ltb, eqb}
 use borrow.Author.Tests.{ltb-true, ltb-false, ne-eqb}
+use Rattle.arrays.proofs.Cases.{cond-both}
 use Rattle.jobs.specs.declared.model.Job.{Job}
 use Rattle.jobs.specs.Model.{versionOf}
 use Rattle.jobs.specs.Choice.{total}
 use Rattle.jobs.specs.Best.{greater, lastVersion}
-use Rattle.jobs.proofs.Cases.{cond-both}
 use Rattle.jobs.proofs.Programme.{within}
 use Rattle.jobs.proofs.Parts.{Leads}
 use Rattle.select.specs.Word.{scoreBy, radix, wordOf, wordBy, scorePart, versionPart, raised}

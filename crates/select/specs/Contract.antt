@@ -5,8 +5,9 @@ use mathlib.Core.Bool.{true, false}
 use mathlib.Core.List.{List}
 use mathlib.Core.Option.{Option, none, some}
 use lib.ListN.{length, getD, take, replicate}
+use Rattle.arrays.specs.Made.{placed}
 use Rattle.jobs.specs.declared.model.JobList.{JobList}
-use Rattle.jobs.specs.Model.{maxJobs, maxVersions, noJob, placed, jobsOf}
+use Rattle.jobs.specs.Model.{maxJobs, maxVersions, noJob, jobsOf}
 use Rattle.select.specs.declared.choice.BestChoice.{BestChoice}
 use Rattle.select.specs.Row.{rowLength}
 use Rattle.select.specs.Table.{picks}

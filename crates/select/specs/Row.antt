@@ -5,9 +5,11 @@ use mathlib.Core.Bool.{cond, _&&_}
 use mathlib.Core.List.{List, _∷_}
 use lib.ListN.{length, getD}
 use lib.Dec.{leb, ltb}
+use Rattle.arrays.specs.Made.{tabulate}
+use Rattle.arrays.specs.Patched.{Patched}
 use Rattle.jobs.specs.declared.model.Version.{Version}
 use Rattle.jobs.specs.declared.model.Job.{Job}
-use Rattle.jobs.specs.Model.{maxSpan, versionOf, tabulate}
+use Rattle.jobs.specs.Model.{maxSpan, versionOf}
 use Rattle.jobs.specs.Rule.{fits, nextBound}
 use Rattle.jobs.specs.Choice.{total}
 use Rattle.jobs.specs.Best.{best, pick}
@@ -33,10 +35,6 @@ offered j k t scores m =
     (raised (getD scores (nextBound j (versionOf j k) (t + m) - t) 0) (wordOf (versionOf j k .worth) k))
     0
 
--- the minutes that a version takes of the station
-abbrev pub minutesOf : Version → ℕ
-minutesOf v = cond (v .read) (v .cost) 0
-
 -- the first entry where version v of job j is offered, if the jobs before have a choice from entry f on; w, the end of the row, if
 -- it comes too late for its due minute
 unfoldable pub firstOffer : Job → Version → ℕ → ℕ → ℕ → ℕ
@@ -58,12 +56,6 @@ dueEntry j t w = min (j .due - t) w
 unfoldable pub dueOffer : Version → ℕ → ℕ → ℕ → List ℕ → ℕ
 dueOffer v k first e scores =
     cond (v .read && leb first e && ltb e (length scores)) (shifted scores (v .cost) (wordOf (v .worth) k) e) 0
-
--- a list of which the entries from a up to b are now those of g, and the others are kept
-pub record Patched (g : ℕ → ℕ) (a b : ℕ) (old new : List ℕ) : Type 0 where
-  pub size : length new ≡ length old
-  pub done : (m : ℕ) → a ≤ m → m < b → getD new m 0 ≡ g m
-  pub kept : (m : ℕ) → ((a ≤ m) × (m < b) → ⊥) → getD new m 0 ≡ getD old m 0
 
 -- from entry a up to b an offer is taken where it is greater than the word that stands
 abbrev pub Taken : (ℕ → ℕ) → ℕ → ℕ → List ℕ → List ℕ → Type 0

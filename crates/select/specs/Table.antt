@@ -3,8 +3,8 @@
 use Prim.Native.Nat.{ℕ, _+_, _-_, _*_}
 use mathlib.Core.List.{List, [], _∷_, _++_}
 use lib.ListN.{length, drop}
+use Rattle.arrays.specs.Made.{tabulate}
 use Rattle.jobs.specs.declared.model.Job.{Job}
-use Rattle.jobs.specs.Model.{tabulate}
 use Rattle.jobs.specs.Best.{pick}
 
 -- "For position i (from 1) and minute x from t to c": row i holds, for each x, "the recipe that the best choice for batches 1

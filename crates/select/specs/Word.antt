@@ -4,8 +4,9 @@ use mathlib.Core.Bool.{cond}
 use mathlib.Core.List.{List}
 use mathlib.Core.Option.{Option, none, some}
 use lib.Dec.{eqb}
+use Rattle.arrays.specs.Bits.{max16}
 use Rattle.jobs.specs.declared.model.Job.{Job}
-use Rattle.jobs.specs.Model.{max16, versionOf}
+use Rattle.jobs.specs.Model.{versionOf}
 use Rattle.jobs.specs.Best.{lastVersion}
 
 -- 0 if no choice exists, else one more than the total: no choice is not a total of 0

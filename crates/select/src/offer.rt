@@ -9,9 +9,9 @@ ghost use mathlib.Core.Path.{_≡_};
 ghost use mathlib.Core.Bool.{cond};
 ghost use Prim.Native.Nat.{ℕ, _≤_, _<_};
 ghost use lib.ListN.{length, getD};
-ghost use Rattle.jobs.specs.Model.{maxVersions};
+ghost use Rattle.jobs.specs.Model.{maxVersions, minutesOf};
 ghost use Rattle.select.specs.Word.{wordOf, maxWorth, maxWord, wordLimit, Low};
-ghost use Rattle.select.specs.Row.{rowLength, minutesOf, shifted, firstOffer, dueEntry, dueOffer, Taken};
+ghost use Rattle.select.specs.Row.{rowLength, shifted, firstOffer, dueEntry, dueOffer, Taken};
 
 // A version of word w at the entries from `first` up to `end`, not counted, where it starts `cost` minutes before each.
 fn shift(first: usize, end: usize, cost: usize, w: u32, scores: &[u32], words: &mut [u32])

@@ -4,8 +4,9 @@ use native.Mathlib.Omega.{arith}
 use mathlib.Core.Path.{_≡_, refl}
 use mathlib.Core.List.{List}
 use lib.ListN.{length}
-use Rattle.jobs.specs.Model.{tabulate, padded}
-use Rattle.jobs.proofs.Places.{length-tabulate, replicate-at, position-beyond, padded-each}
+use Rattle.arrays.specs.Made.{tabulate, padded}
+use Rattle.arrays.proofs.Tabulates.{length-tabulate, padded-each}
+use Rattle.arrays.proofs.Places.{replicate-at, position-beyond}
 use Rattle.week.specs.declared.record.Batch.{Batch}
 use Rattle.week.specs.declared.record.Week.{Week}
 use Rattle.week.specs.Record.{maxBatches, maxRecipes, noRecipe, emptyBatch, noBatch, emptyWeek, batchOf, recipeOf}

@@ -5,16 +5,16 @@ use native.Mathlib.Decide.{ℕ-discrete}
 use mathlib.Core.Path.{_≡_, refl, sym, ap, _∙_}
 use mathlib.Core.Logic.{_↔_}
 use mathlib.Core.List.{List}
-use Rattle.week.specs.Fault.{listFault, WellFormed}
-use Rattle.week.proofs.First.{number-of}
+use Rattle.judge.specs.Fault.{listFault, WellFormed}
+use Rattle.week.proofs.First.{number-of, refuses-too}
 use Rattle.sheet.specs.declared.read.Reading.{Reading}
 use Rattle.sheet.specs.Line.{linesOf, AreLines}
 use Rattle.sheet.specs.List.{sheetWeek}
 use Rattle.sheet.specs.Read.{readFault, refusedReading, readAnswer, WellWritten, ZeroBeyond}
 use Rattle.sheet.proofs.LinesWhole.{are-lines}
-use Rattle.sheet.proofs.Written.{faultless}
+use Rattle.sheet.proofs.WellWritten.{read-faultless}
 use Rattle.sheet.proofs.Beyond.{empty-beyond, sheet-beyond}
-use Rattle.sheet.proofs.Reading.{answer-refused, answer-passed, answer-refusal}
+use Rattle.sheet.proofs.Reading.{read-answers, reading-refusal}
 
 -- 01, "The sheet": "Each line is one frame .., ended by a line feed." The lines put together are the sheet, none is empty, and a
 -- line feed ends each but perhaps the last and stands nowhere else.
@@ -25,24 +25,24 @@ read-lines = are-lines
 pub read-passes : (sheet : List ℕ) → readAnswer sheet .refusal .number ≡ 0 →
     WellFormed (readAnswer sheet .week) × (readAnswer sheet .week ≡ sheetWeek sheet)
 read-passes sheet z =
-    let none = number-of (sym (answer-refusal sheet)) ∙ z in
-    let list = ap (λ (a : Reading). a .week) (answer-passed sheet none) in
-    (ap listFault list ∙ faultless sheet .0 none .list, list)
+    let none = number-of (sym (reading-refusal sheet)) ∙ z in
+    let list = ap (λ (a : Reading). a .week) (read-answers sheet .passed none) in
+    (ap listFault list ∙ read-faultless sheet .0 none .list, list)
 
 -- "An answer of refusal is three numbers: its own, a place and a recipe. Anything else that its record holds is 0".
 pub read-refuses : (sheet : List ℕ) → (readAnswer sheet .refusal .number ≡ 0 → ⊥) →
     readAnswer sheet ≡ refusedReading (readFault sheet)
-read-refuses sheet n = answer-refused sheet refl (λ z. n (number-of (answer-refusal sheet) ∙ z))
+read-refuses sheet n = read-answers sheet .refused refl (refuses-too (reading-refusal sheet) n)
 
 -- "The number answered is the first in this order whose condition holds" ..
 pub read-refusal : (sheet : List ℕ) → readAnswer sheet .refusal ≡ readFault sheet
-read-refusal = answer-refusal
+read-refusal = reading-refusal
 
 -- .. "and nothing else is refused."
 pub read-reads : (sheet : List ℕ) → (readAnswer sheet .refusal .number ≡ 0) ↔ WellWritten sheet
 read-reads sheet = (
-  λ z. faultless sheet .0 (number-of (sym (answer-refusal sheet)) ∙ z),
-  λ h. number-of (answer-refusal sheet) ∙ faultless sheet .1 h,
+  λ z. read-faultless sheet .0 (number-of (sym (reading-refusal sheet)) ∙ z),
+  λ h. number-of (reading-refusal sheet) ∙ read-faultless sheet .1 h,
 )
 
 -- "Places of an answer beyond n hold 0", of the batches, and of each batch's recipes.
@@ -50,6 +50,6 @@ pub read-beyond : (sheet : List ℕ) → ZeroBeyond (readAnswer sheet .week)
 unfolding refusedReading
 read-beyond sheet =
     elim (ℕ-discrete (readFault sheet .number) 0) [
-      | yes z ↦ rw (answer-passed sheet z) (sheet-beyond sheet)
-      | no n ↦ rw (answer-refused sheet refl n) empty-beyond
+      | yes z ↦ rw (read-answers sheet .passed z) (sheet-beyond sheet)
+      | no n ↦ rw (read-answers sheet .refused refl n) empty-beyond
     ]

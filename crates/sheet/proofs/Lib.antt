@@ -5,11 +5,12 @@ pub mod Frames
 pub mod Lines
 pub mod Reached
 pub mod LinesWhole
+pub mod OneLine
 pub mod LinesFault
 pub mod Placed
 pub mod Listed
 pub mod Beyond
 pub mod Reading
-pub mod Written
-pub mod Numbers
+pub mod WellWritten
+pub mod SheetNumbers
 pub mod Demands

@@ -5,7 +5,7 @@ use native.Mathlib.Omega.{arith}
 use mathlib.Core.Path.{_≡_, sym, ap, subst, _∙_}
 use mathlib.Core.List.{List}
 use lib.ListN.{length, set}
-use Rattle.jobs.proofs.Fills.{Padding, padding-start, padding-step}
+use Rattle.arrays.proofs.Stores.{Padding, padding-start, padding-step}
 use Rattle.week.specs.declared.record.Batch.{Batch}
 use Rattle.week.specs.declared.record.Week.{Week}
 use Rattle.week.specs.Record.{maxBatches, emptyBatch, emptyWeek}

@@ -18,18 +18,18 @@ passed-first : (f : Frame) → frameFault 1 f .number ≡ 0 → f ≡ Week
 unfolding frameFault
 passed-first None z = absurd (omega arith)
 passed-first Week z = refl
-passed-first Batch z = absurd (eqb-false 1 1 (refusedIf-none _ _ _ _ z) refl)
+passed-first Batch z = absurd (eqb-false 1 1 (refusedIf-none 17 1 0 refl _ z) refl)
 
 passed-later : (place : ℕ) (f : Frame) → 1 < place → frameFault place f .number ≡ 0 → f ≡ Batch
 unfolding frameFault
 passed-later place None later z = absurd (omega arith)
-passed-later place Week later z = absurd (omega (arith, eqb-true place 1 (not-false _ (refusedIf-none _ _ _ _ z))))
+passed-later place Week later z = absurd (omega (arith, eqb-true place 1 (not-false _ (refusedIf-none 17 place 0 refl _ z))))
 passed-later place Batch later z = refl
 
 module _ (lines : List (List ℕ)) (passed : linesFault lines .number ≡ 0) where
   pub placed-some : 0 < length lines
   unfolding linesFault
-  placed-some = omega (arith, eqb-false (length lines) 0 (refusedIf-none _ _ _ _ (firstOf-none _ _ passed .0)))
+  placed-some = omega (arith, eqb-false (length lines) 0 (refusedIf-none 17 1 0 refl _ (firstOf-none _ _ passed .0)))
 
   line-passed : (i : ℕ) → i < length lines → lineFault lines i .number ≡ 0
   unfolding linesFault

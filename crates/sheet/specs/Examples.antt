@@ -5,12 +5,14 @@ use mathlib.Core.Path.{_≡_, refl}
 use mathlib.Core.Bool.{true}
 use mathlib.Core.List.{List, [], _∷_, map, flatten}
 use lib.ListN.{take}
+use Rattle.arrays.specs.Each.{someBelow}
+use Rattle.arrays.specs.Example.{Example, _is_, same, agree}
 use Rattle.week.specs.declared.record.Recipe.{Recipe}
 use Rattle.week.specs.declared.record.Batch.{Batch}
-use Rattle.week.specs.Record.{before}
-use Rattle.week.specs.Example.{Example, _is_, same, agree}
-use Rattle.week.specs.Refusal.{refusedIf, orElse, firstOf, first, unlessRefused}
-use Rattle.week.specs.Fault.{weekFault, costFault, worthFault, repeatFault, orderFault, batchFault, listFault}
+use Rattle.week.specs.Order.{before}
+use Rattle.week.specs.Refusal.{refusedIf, orElse, firstOf, first, unlessRefused, answerBy, atPlace}
+use Rattle.judge.specs.Fault.{weekFault, numberFault, orderFault, batchFault, listFault}
+use Rattle.judge.specs.BatchFault.{costFault, worthFault}
 use Rattle.sheet.specs.declared.read.Reading.{Reading}
 use Rattle.sheet.specs.Text.{bytes}
 use Rattle.sheet.specs.Hex.{isDigit, digitOf, byteAt, wordAt}
@@ -70,8 +72,8 @@ table =
 
 examples : agree table ≡ true
 unfolding
-    table same agree flatten before refusedIf orElse firstOf first unlessRefused
-    weekFault costFault worthFault repeatFault orderFault batchFault listFault
+    table same agree flatten before refusedIf orElse firstOf first someBelow atPlace unlessRefused answerBy
+    weekFault costFault worthFault numberFault orderFault batchFault listFault
     isDigit digitOf byteAt wordAt isWeek isBatch frameOf
     sizeFault frameFault lineFault linesFault batchFrom weekFrom readFault refusedReading readAnswer
 examples = refl

@@ -2,7 +2,7 @@
 use Prim.Native.Nat.{ℕ, suc, _+_, _*_, _-_, min}
 use mathlib.Core.List.{List}
 use lib.ListN.{length}
-use Rattle.jobs.specs.Model.{tabulate, padded}
+use Rattle.arrays.specs.Made.{tabulate, padded}
 use Rattle.week.specs.declared.record.Recipe.{Recipe}
 use Rattle.week.specs.declared.record.Batch.{Batch}
 use Rattle.week.specs.declared.record.Week.{Week}

@@ -3,12 +3,12 @@ use Prim.Native.Nat.{ℕ, _≤_, _<_}
 use mathlib.Core.Path.{_≡_}
 use mathlib.Core.List.{List, [], _∷_}
 use lib.ListN.{length}
-use Rattle.jobs.specs.Model.{atPosition}
+use Rattle.arrays.specs.Position.{atPosition}
 use Rattle.week.specs.declared.record.Week.{Week}
 use Rattle.week.specs.declared.refusal.Refusal.{Refusal}
 use Rattle.week.specs.Record.{noRecipe, emptyBatch, emptyWeek, batchOf, recipeOf}
-use Rattle.week.specs.Refusal.{accepted, firstOf, unlessRefused}
-use Rattle.week.specs.Fault.{listFault, WellFormed}
+use Rattle.week.specs.Refusal.{accepted, firstOf, answerBy}
+use Rattle.judge.specs.Fault.{listFault, WellFormed}
 use Rattle.sheet.specs.declared.frame.Frame.the-variants as frame
 use Rattle.sheet.specs.declared.read.Reading.{Reading}
 use Rattle.sheet.specs.Line.{linesOf, lineAt}
@@ -17,8 +17,11 @@ use Rattle.sheet.specs.Fault.{maxBytes, sizeFault, linesFault}
 use Rattle.sheet.specs.List.{sheetWeek}
 
 -- "Order: 18; then line by line 16, 17; then 1, 2, 3; then batch by batch 4 to 10"
+abbrev pub readFaults : List ℕ → List Refusal
+readFaults sheet = sizeFault sheet ∷ linesFault (linesOf sheet) ∷ listFault (sheetWeek sheet) ∷ []
+
 unfoldable pub readFault : List ℕ → Refusal
-readFault sheet = firstOf (sizeFault sheet ∷ linesFault (linesOf sheet) ∷ listFault (sheetWeek sheet) ∷ [])
+readFault sheet = firstOf (readFaults sheet)
 
 -- "Anything else that its record holds is 0".
 unfoldable pub refusedReading : Refusal → Reading
@@ -26,8 +29,7 @@ refusedReading r = record { refusal = r; week = emptyWeek 0 0 }
 
 -- "Read a sheet, answering a list that passed 1 to 10."
 unfoldable pub readAnswer : List ℕ → Reading
-readAnswer sheet =
-    unlessRefused (readFault sheet) (record { refusal = accepted; week = sheetWeek sheet }) (refusedReading (readFault sheet))
+readAnswer sheet = answerBy (readFault sheet) refusedReading (record { refusal = accepted; week = sheetWeek sheet })
 
 -- a sheet that gives a list: 18, 16, 17 and 1 to 10 do not hold of it
 pub record WellWritten (sheet : List ℕ) : Type 0 where

@@ -1,7 +1,7 @@
 // Reading a sheet: a list that passed refusals 1 to 10, or the first refusal of document 01's order.
 use crate::fault::lines_fault;
 use crate::list::week_of;
-use week::fault::list_fault;
+use judge::fault::list_fault;
 use week::record::Week;
 use week::refusal::Refusal;
 ghost use mathlib.Core.Path.{_≡_};

@@ -1,24 +1,25 @@
--- The first that refuses: the laws of `orElse`, `firstOf`, `first` and `refusedIf`, each stated once for every proof of a refusal.
+-- The first that refuses: the laws of `orElse`, `firstOf`, `first`, `refusedIf` and `atPlace`, each stated once for every proof of a
+-- refusal.
 use Prim.Native.Nat.{ℕ, zero, suc, _+_, _-_, _<_, _≤_}
 use native.Mathlib.Nat.{sub-zero}
 use native.Mathlib.Numerals.{add-one}
 use native.Mathlib.Decide.{ℕ-discrete}
 use native.Mathlib.Omega.{arith}
 use mathlib.Core.Path.{_≡_, refl, ap, sym, _∙_}
-use mathlib.Core.Logic.{_↔_}
 use mathlib.Core.Bool.{Bool, true, false}
 use mathlib.Core.List.{List, [], _∷_, _++_}
-use lib.Dec.{ltb}
-use borrow.Author.Tests.{eq-eqb, ne-eqb, lt-ltb, le-ltb, ltb-false}
+use lib.Dec.{eqb}
+use borrow.Author.Tests.{eqb-false, eq-eqb, ne-eqb}
 use Rattle.week.specs.declared.refusal.Refusal.{Refusal}
-use Rattle.week.specs.Refusal.{accepted, refused, refusedIf, orElse, firstOf, first, shortFault, unlessRefused}
+use Rattle.week.specs.Refusal.{accepted, refused, refusedIf, orElse, firstOf, first, unlessRefused, atPlace}
 
 pub number-of : {a b : Refusal} → a ≡ b → a .number ≡ b .number
 number-of e = ap (λ (r : Refusal). r .number) e
 
--- a refusal of a number above 0 refuses
-pub refuses : {a : Refusal} {number place recipe : ℕ} → a ≡ refused (suc number) place recipe → a .number ≡ 0 → ⊥
-refuses e z = let n = number-of e in omega arith
+-- a refusal of a number that is not 0 refuses
+pub refuses : {a : Refusal} (number : ℕ) {place recipe : ℕ} → eqb number 0 ≡ false → a ≡ refused number place recipe →
+    a .number ≡ 0 → ⊥
+refuses number some e z = eqb-false number 0 some (sym (number-of e) ∙ z)
 
 -- and so does what it equals
 pub refuses-too : {a b : Refusal} → a ≡ b → (a .number ≡ 0 → ⊥) → b .number ≡ 0 → ⊥
@@ -30,11 +31,11 @@ Proper r = r .number ≡ 0 → r ≡ accepted
 
 -- ---- of two
 module _ (a b : Refusal) where
-  pub or-first : (a .number ≡ 0 → ⊥) → orElse a b ≡ a
+  or-first : (a .number ≡ 0 → ⊥) → orElse a b ≡ a
   unfolding orElse
   or-first h = simp (ne-eqb _ _ h)
 
-  pub or-second : a .number ≡ 0 → orElse a b ≡ b
+  or-second : a .number ≡ 0 → orElse a b ≡ b
   unfolding orElse
   or-second h = simp (eq-eqb _ _ h)
 
@@ -64,53 +65,30 @@ module _ (number place recipe : ℕ) where
   unfolding refusedIf
   refusedIf-false e = rw e
 
-pub refusedIf-none : (number place recipe : ℕ) (holds : Bool) → refusedIf (suc number) place recipe holds .number ≡ 0 → holds ≡ false
-unfolding refusedIf
-refusedIf-none number place recipe true h = absurd (omega arith)
-refusedIf-none number place recipe false h = refl
+-- of a number that is not 0
+module _ (number place recipe : ℕ) (some : eqb number 0 ≡ false) where
+  pub refusedIf-none : (holds : Bool) → refusedIf number place recipe holds .number ≡ 0 → holds ≡ false
+  unfolding refusedIf
+  refusedIf-none true h = absurd (eqb-false number 0 some h)
+  refusedIf-none false h = refl
 
-pub refusedIf-proper : (number place recipe : ℕ) (holds : Bool) → Proper (refusedIf (suc number) place recipe holds)
-refusedIf-proper number place recipe holds h = refusedIf-false (suc number) place recipe (refusedIf-none number place recipe holds h)
+  pub refusedIf-proper : (holds : Bool) → Proper (refusedIf number place recipe holds)
+  refusedIf-proper holds h = refusedIf-false number place recipe (refusedIf-none holds h)
 
--- ---- of a lent slice
-pub short-refuses : (number : ℕ) {needed size : ℕ} → size < needed → shortFault number needed size ≡ refused number 0 0
-unfolding shortFault
-short-refuses number l = refusedIf-true number 0 0 (lt-ltb _ _ l)
+-- ---- in a place
+module _ (place : ℕ) (r : Refusal) where
+  pub place-refused : (r .number ≡ 0 → ⊥) → atPlace place r ≡ refused (r .number) place (r .recipe)
+  unfolding atPlace unlessRefused
+  place-refused n = rw (ne-eqb (r .number) 0 n)
 
-pub long-passes : (number needed size : ℕ) → (shortFault (suc number) needed size ≡ accepted) ↔ (needed ≤ size)
-unfolding shortFault
-long-passes number needed size = (
-  λ e. ltb-false _ _ (refusedIf-none number 0 0 (ltb size needed) (number-of e)),
-  λ l. refusedIf-false (suc number) 0 0 (le-ltb _ _ l),
-)
+  place-passed : r .number ≡ 0 → atPlace place r ≡ accepted
+  unfolding atPlace unlessRefused
+  place-passed z = rw (eq-eqb (r .number) 0 z)
 
-pub short-proper : (number needed size : ℕ) → Proper (shortFault (suc number) needed size)
-unfolding shortFault
-short-proper number needed size = refusedIf-proper number 0 0 (ltb size needed)
-
--- ---- of an answer
-module _ {A : Type 0} (fault : Refusal) (passed other : A) where
-  pub unless-passed : fault .number ≡ 0 → unlessRefused fault passed other ≡ passed
-  unfolding unlessRefused
-  unless-passed z = rw (eq-eqb (fault .number) 0 z)
-
-  pub unless-refused : (fault .number ≡ 0 → ⊥) → unlessRefused fault passed other ≡ other
-  unfolding unlessRefused
-  unless-refused n = rw (ne-eqb (fault .number) 0 n)
-
-  -- an answer whose refusal is none where it passes, and the fault where it does not, names the fault
-  pub unless-names : (refusalOf : A → Refusal) → refusalOf passed ≡ accepted → refusalOf other ≡ fault → Proper fault →
-      refusalOf (unlessRefused fault passed other) ≡ fault
-  unless-names refusalOf none named proper =
-      elim (ℕ-discrete (fault .number) 0) [
-        | yes z ↦ ap refusalOf (unless-passed z) ∙ none ∙ sym (proper z)
-        | no n ↦ ap refusalOf (unless-refused n) ∙ named
-      ]
-
--- where it refuses by its fault, it refuses by what the fault equals
-pub unless-refused-by : {A : Type 0} (refusing : Refusal → A) (passed : A) {fault r : Refusal} → fault ≡ r → (r .number ≡ 0 → ⊥) →
-    unlessRefused fault passed (refusing fault) ≡ refusing r
-unless-refused-by refusing passed e n = unless-refused _ _ _ (refuses-too (sym e) n) ∙ ap refusing e
+  pub place-number : atPlace place r .number ≡ r .number
+  place-number =
+      elim (ℕ-discrete (r .number) 0)
+      [ yes z ↦ number-of (place-passed z) ∙ sym z | no n ↦ number-of (place-refused n) ]
 
 -- ---- of a list
 module _ (r : Refusal) (rs : List Refusal) where
@@ -126,7 +104,7 @@ module _ (r : Refusal) (rs : List Refusal) where
   unfolding firstOf
   firstOf-none = or-none r (firstOf rs)
 
-pub firstOf-one : (r : Refusal) → Proper r → firstOf (r ∷ []) ≡ r
+firstOf-one : (r : Refusal) → Proper r → firstOf (r ∷ []) ≡ r
 unfolding firstOf
 firstOf-one = or-accepted
 
@@ -144,9 +122,17 @@ unfolding firstOf orElse
 firstOf-append [] ys = refl
 firstOf-append (x ∷ xs) ys = ap (orElse x) (firstOf-append xs ys) ∙ sym (or-assoc x (firstOf xs) (firstOf ys))
 
--- where none of a list refuses, none of its last part does
-pub append-none : (xs ys : List Refusal) → firstOf (xs ++ ys) .number ≡ 0 → firstOf ys .number ≡ 0
-append-none xs ys h = or-none (firstOf xs) (firstOf ys) (number-of (sym (firstOf-append xs ys)) ∙ h) .1
+-- an order in two parts: the first part refuses, or the second decides
+module _ (xs ys : List Refusal) where
+  pub append-first : (firstOf xs .number ≡ 0 → ⊥) → firstOf (xs ++ ys) ≡ firstOf xs
+  append-first n = firstOf-append xs ys ∙ or-first (firstOf xs) (firstOf ys) n
+
+  pub append-rest : firstOf xs .number ≡ 0 → firstOf (xs ++ ys) ≡ firstOf ys
+  append-rest z = firstOf-append xs ys ∙ or-second (firstOf xs) (firstOf ys) z
+
+-- one more at the end
+pub append-last : (xs : List Refusal) (r : Refusal) → Proper r → firstOf xs .number ≡ 0 → firstOf (xs ++ (r ∷ [])) ≡ r
+append-last xs r proper z = append-rest xs (r ∷ []) z ∙ firstOf-one r proper
 
 -- ---- of f i, f (i + 1), ..
 module _ (f : ℕ → Refusal) where

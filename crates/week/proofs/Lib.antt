@@ -1,5 +1,5 @@
 pub mod First
+pub mod Passes
+pub mod Answering
+pub mod RefusalNumbers
 pub mod Owned
-pub mod Sound
-pub mod Numbers
-pub mod Order

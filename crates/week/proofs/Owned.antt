@@ -1,14 +1,13 @@
--- What owning a week's list tells of its numbers: each worth fits 16 bits.
-use Prim.Native.Nat.{ℕ, zero, suc, _<_}
+-- What owning a week's list tells: how long its arrays are, and that each worth is a number of 16 bits.
+use Prim.Native.Nat.{ℕ, _<_, _≤_}
 use native.Mathlib.Omega.{arith}
 use mathlib.Core.Path.{_≡_, sym, _∙_}
-use mathlib.Core.List.{List, [], _∷_, map}
-use lib.ListN.{length, getD, length-map}
+use mathlib.Core.List.{List, [], _∷_}
+use lib.ListN.{length, length-map}
 use mir.Val.{Val}
 use denote.Laws.{Is}
-use denote.Shadow.{shadow}
-use denote.Array.{each}
-use denote.Struct.Field.{Field}
+use Rattle.arrays.proofs.OwnedArrays.{each-in}
+use Rattle.arrays.specs.Bits.{max16}
 use Rattle.week.specs.declared.record.Recipe.{Recipe}
 use Rattle.week.specs.declared.record.Batch.{Batch}
 use Rattle.week.specs.declared.record.Week.{Week}
@@ -17,30 +16,29 @@ use Rattle.week.proofs.record.Recipe as R
 use Rattle.week.proofs.record.Batch as B
 use Rattle.week.proofs.record.Week as W
 
--- what owning an element tells holds of each element of an array
-module _ (F : Field) (P : F .Value → Type 0) (one : (x : F .Value) (u : Val) → Is (F .row) (F .into x) (u ∷ []) → P x) where
-  each-in : (xs : List (F .Value)) (us : List Val) → shadow (each (F .row .Denot) (F .row .own) (map (F .into) xs) us) →
-      (i : ℕ) → i < length xs → (d : F .Value) → P (getD xs i d)
-  each-in [] us h i l d = absurd (omega arith)
-  each-in (x ∷ xs) [] h i l d = absurd h
-  each-in (x ∷ xs) (u ∷ us) h zero l d = one x u (h .0)
-  each-in (x ∷ xs) (u ∷ us) h (suc i) l d = each-in xs us (h .1) i (omega arith) d
+-- each worth of a list is a number of 16 bits
+abbrev pub WorthsFit : Week → Type 0
+WorthsFit w = (i k : ℕ) → i < maxBatches → k < maxRecipes → recipeAt (batchAt w i) k .worth ≤ max16
 
-worth-of : (r : Recipe) (vs : List Val) → Is (R.the-field .row) (R.the-field .into r) vs → r .worth < 65536
-worth-of r vs h = h .1 .1 .1 .0 .1
+worth-of : (r : Recipe) (vs : List Val) → Is (R.the-field .row) (R.the-field .into r) vs → r .worth ≤ max16
+worth-of r vs h = omega (arith, h .1 .1 .1 .0 .1)
+
+-- an array has a place for each of the most recipes, and for each of the most batches
+recipes-owned : (b : Batch) (vs : List Val) → Is (B.the-field .row) (B.the-field .into b) vs → length (b .recipes) ≡ maxRecipes
+recipes-owned b vs h = sym (length-map (b .recipes) (R.the-field .into)) ∙ h .1 .1 .1 .1 .1 .1 .0 .1 .0 .1
+
+pub batches-owned : (w : Week) (vs : List Val) → Is (W.the-row) w vs → length (w .batches) ≡ maxBatches
+batches-owned w vs h = sym (length-map (w .batches) (B.the-field .into)) ∙ h .1 .1 .1 .1 .1 .0 .1 .0 .1
 
 worths-of : (b : Batch) (vs : List Val) → Is (B.the-field .row) (B.the-field .into b) vs →
-    (k : ℕ) → k < maxRecipes → recipeAt b k .worth < 65536
+    (k : ℕ) → k < maxRecipes → recipeAt b k .worth ≤ max16
 worths-of b vs h k l =
     let recipes = h .1 .1 .1 .1 .1 .1 .0 in
-    let long : length (b .recipes) ≡ maxRecipes = sym (length-map (b .recipes) (R.the-field .into)) ∙ recipes .1 .0 .1 in
-    each-in R.the-field (λ r. r .worth < 65536) (λ r u. worth-of r (u ∷ [])) (b .recipes) (recipes .0) (recipes .1 .1) k
-    (omega arith) _
+    each-in R.the-field (λ r. r .worth ≤ max16) (λ r u. worth-of r (u ∷ [])) (b .recipes) (recipes .0) (recipes .1 .1) k
+    (omega (arith, recipes-owned b vs h)) _
 
-pub worths-fit : (w : Week) (vs : List Val) → Is (W.the-row) w vs →
-    (i k : ℕ) → i < maxBatches → k < maxRecipes → recipeAt (batchAt w i) k .worth < 65536
+pub worths-fit : (w : Week) (vs : List Val) → Is (W.the-row) w vs → WorthsFit w
 worths-fit w vs h i k l =
     let batches = h .1 .1 .1 .1 .1 .0 in
-    let long : length (w .batches) ≡ maxBatches = sym (length-map (w .batches) (B.the-field .into)) ∙ batches .1 .0 .1 in
-    each-in B.the-field (λ b. (k : ℕ) → k < maxRecipes → recipeAt b k .worth < 65536) (λ b u. worths-of b (u ∷ [])) (w .batches)
-    (batches .0) (batches .1 .1) i (omega arith) _ k
+    each-in B.the-field (λ b. (k : ℕ) → k < maxRecipes → recipeAt b k .worth ≤ max16) (λ b u. worths-of b (u ∷ [])) (w .batches)
+    (batches .0) (batches .1 .1) i (omega (arith, batches-owned w vs h)) _ k

@@ -1,4 +1,3 @@
 pub mod Record
+pub mod Order
 pub mod Refusal
-pub mod Fault
-pub mod Example

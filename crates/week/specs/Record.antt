@@ -1,10 +1,9 @@
 -- The records that the desk hands in: document 01, "What the planner holds".
 use Prim.Native.Nat.{ℕ, _-_, max}
-use mathlib.Core.Bool.{Bool, cond}
 use mathlib.Core.List.{[]}
 use lib.ListN.{getD, replicate}
-use lib.Dec.{ltb, eqb}
-use Rattle.jobs.specs.Model.{maxJobs, maxSpan, maxVersions, atPosition}
+use Rattle.arrays.specs.Position.{atPosition}
+use Rattle.jobs.specs.Model.{maxJobs, maxSpan, maxVersions}
 use Rattle.week.specs.declared.record.Recipe.{Recipe}
 use Rattle.week.specs.declared.record.Batch.{Batch}
 use Rattle.week.specs.declared.record.Week.{Week}
@@ -47,6 +46,10 @@ batchOf w i = atPosition noBatch (w .batches) i
 abbrev pub recipeOf : Batch → ℕ → Recipe
 recipeOf b k = atPosition noRecipe (b .recipes) k
 
+-- the number of the batch of an index
+abbrev pub numberAt : Week → ℕ → ℕ
+numberAt w i = batchAt w i .number
+
 -- how many minutes there are from t to c − 1
 abbrev pub spanOf : Week → ℕ
 spanOf w = w .closing - w .opening
@@ -54,10 +57,3 @@ spanOf w = w .closing - w .opening
 -- "A batch's ready minute s is the greater of t and r."
 abbrev pub readyOf : ℕ → Batch → ℕ
 readyOf t b = max t (b .arrival)
-
--- "Batches stand in order of due minute, then ready minute, then number."
-unfoldable pub before : ℕ → Batch → Batch → Bool
-before t a b =
-    cond (eqb (a .due) (b .due))
-    (cond (eqb (readyOf t a) (readyOf t b)) (ltb (a .number) (b .number)) (ltb (readyOf t a) (readyOf t b)))
-    (ltb (a .due) (b .due))

@@ -38,3 +38,11 @@ shortFault number needed size = refusedIf number 0 0 (ltb size needed)
 -- what an operation answers, or leaves in lent memory, where it does not refuse and where it does
 unfoldable pub unlessRefused : {A : Type 0} → Refusal → A → A → A
 unlessRefused fault passed refused = cond (eqb (fault .number) 0) passed refused
+
+-- an operation's answer: the refusal that comes first, made an answer, or what it answers where nothing refuses
+unfoldable pub answerBy : {A : Type 0} → Refusal → (Refusal → A) → A → A
+answerBy fault refusing passed = unlessRefused fault passed (refusing fault)
+
+-- a refusal that names no place, in a place
+unfoldable pub atPlace : ℕ → Refusal → Refusal
+atPlace place r = unlessRefused r accepted (refused (r .number) place (r .recipe))

@@ -1,4 +1,4 @@
-// What the desk hands in: a week's list of batches, and the refusals of a list and of a choice.
-pub mod fault;
+// What the desk hands in, a week's list of batches and their order, and what a refusal is.
+pub mod order;
 pub mod record;
 pub mod refusal;

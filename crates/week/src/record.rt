@@ -2,7 +2,7 @@
 use jobs::model::Job;
 use jobs::model::JobList;
 ghost use mathlib.Core.Path.{_≡_};
-ghost use Rattle.week.specs.Record.{emptyBatch, emptyWeek, readyOf};
+ghost use Rattle.week.specs.Record.{emptyBatch, emptyWeek, readyOf, spanOf};
 
 // Minutes on the station, and a worth.
 pub struct Recipe {
@@ -71,5 +71,15 @@ impl Week {
             count: 0,
             batches: [nothing; Week::MAX_BATCHES],
         }
+    }
+
+    // The minutes from the opening to the close, the close not counted; none where it closes before it opens.
+    pub fn minutes(self) -> usize
+        ensures { λ r. ⌜ r ≡ spanOf self ⌝ }
+    {
+        if self.closing < self.opening {
+            return 0;
+        }
+        (self.closing - self.opening) as usize
     }
 }

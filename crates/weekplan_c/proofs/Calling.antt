@@ -3,164 +3,163 @@ use Prim.Native.Nat.{ℕ, _*_, _≤_}
 use native.Mathlib.Decide.{ℕ-discrete}
 use native.Mathlib.Omega.{arith}
 use mathlib.Core.Path.{_≡_, refl, sym, ap, _∙_}
-use mathlib.Core.Logic.{_↔_, inl, inr, ⊎-elim}
+use mathlib.Core.Logic.{_↔_, Iff·trans, inl, inr, ⊎-elim}
 use mathlib.Core.Bool.{Bool, true, not}
-use mathlib.Core.List.{List, _++_}
+use mathlib.Core.List.{List, [], _∷_, _++_}
 use lib.ListN.{length, drop}
-use lib.IntN.{pos}
+use lib.IntN.{ℤ, pos}
 use lib.Dec.{eqb}
 use borrow.Author.Tests.{eqb-false, ne-eqb, not-true}
-use Rattle.jobs.proofs.Places.{backward-take}
+use Rattle.arrays.specs.Bits.{max16}
 use Rattle.week.specs.declared.record.Week.{Week}
 use Rattle.week.specs.declared.refusal.Refusal.{Refusal}
 use Rattle.week.specs.Record.{maxBatches}
 use Rattle.week.specs.Refusal.{firstOf, shortFault}
-use Rattle.week.proofs.First.{number-of, refuses-too, or-first, or-second, firstOf-none, firstOf-last}
-use Rattle.week.proofs.First.{short-proper, unless-passed, unless-refused, unless-refused-by}
-use Rattle.week.proofs.Sound.{sound}
-use Rattle.week.proofs.Numbers.{Numbered, or-numbered, refusedIf-numbered}
-use Rattle.planner.specs.declared.choose.Plan.{Plan}
-use Rattle.planner.specs.Choose.{tableFault, fillFault, weekBest, planChoice, chooseAnswer, tableAfter, LongEnough}
-use Rattle.planner.proofs.Jobs.{handed-names, total-small}
+use Rattle.week.proofs.First.{Proper, number-of, refuses-too, append-first, append-last, append-rest}
+use Rattle.week.proofs.Passes.{short-proper, firstOf-passes, short-passes, append-passes}
+use Rattle.week.proofs.Answering.{Answers, answers, unless-passed, unless-refused}
+use Rattle.judge.proofs.Sound.{sound}
+use Rattle.week.proofs.RefusalNumbers.{Numbered, or-numbered, refusedIf-numbered, append-numbered}
+use Rattle.planner.specs.Choose.{tableFault, planFault, fillFault, weekBest, planChoice, chooseAnswer, tableAfter, LongTable}
+use Rattle.planner.proofs.Jobs.{handed-names, total-small, list-choice}
 use Rattle.planner.proofs.Demands.{choose-best, choose-names}
-use Rattle.planner.proofs.Choosing as choosing
-use Rattle.planner.proofs.Choosing.{plan-refusal, plan-passed, fills-faultless}
+use Rattle.planner.proofs.Choosing.{fill-faultless, fills-faultless, plan-fault, plan-proper, table-proper}
 use Rattle.sheet.specs.List.{sheetWeek}
-use Rattle.sheet.specs.Read.{readFault, WellWritten}
+use Rattle.sheet.specs.Read.{readFaults, readFault, WellWritten}
 use Rattle.sheet.proofs.Values.{worths-small}
-use Rattle.sheet.proofs.Numbers.{read-numbered}
-use Rattle.sheet.proofs.Written as written
-use Rattle.weekplan_c.specs.Call.{bufferFault, lentFault, keepFault, callFault, minusOf, callAnswer, picksAfter, recipesAfter}
-use Rattle.weekplan_c.specs.Call.{Planned, Fills, LongBuffer}
+use Rattle.sheet.proofs.SheetNumbers.{read-numbered}
+use Rattle.sheet.proofs.WellWritten.{read-faultless}
+use Rattle.weekplan_c.specs.Call.{bufferFault, lentFaults, keepFaults, keepFault, callFault, minusOf, callAnswer, picksAfter}
+use Rattle.weekplan_c.specs.Call.{recipesAfter, Planned, CallFills, LongBuffer}
 use Rattle.weekplan_c.proofs.Signed.{minus-injective, not-minus}
 
--- the sizes pass
-lent-faultless : (w : Week) (table buffer : ℕ) → (lentFault w table buffer .number ≡ 0) ↔ (LongEnough w table × LongBuffer w buffer)
-unfolding lentFault tableFault bufferFault
-lent-faultless w table buffer = (
-  λ z.
-      let one = firstOf-none _ _ z in
-      (short-proper 10 _ _ (one .0), short-proper 18 _ _ (firstOf-none _ _ (one .1) .0)),
-  λ h. number-of (firstOf-last _ _ (number-of (h .0)) (short-proper 18 (w .count) buffer) ∙ h .1),
-)
-
-module _ (sheet : List ℕ) (table buffer : ℕ) where
+module _ (sheet : List ℕ) (tableSize bufferSize : ℕ) where
   abbrev w : Week
   w = sheetWeek sheet
 
+  -- what refuses before anything is written, all that refuses, and the answer
+  abbrev keep : Refusal
+  keep = keepFault sheet tableSize bufferSize
+
+  abbrev call : Refusal
+  call = callFault sheet tableSize bufferSize
+
+  abbrev answer : ℤ
+  answer = callAnswer sheet tableSize bufferSize
+
+  buffer-proper : Proper (bufferFault w bufferSize)
+  unfolding bufferFault
+  buffer-proper = short-proper 19 (w .count) bufferSize refl
+
+  pub long-buffer : LongBuffer w bufferSize ↔ (w .count ≤ bufferSize)
+  unfolding bufferFault
+  long-buffer = short-passes 19 (w .count) bufferSize refl
+
   -- what keeps all that is lent: the sheet refuses, ..
-  pub keep-sheet : (readFault sheet .number ≡ 0 → ⊥) → keepFault sheet table buffer ≡ readFault sheet
-  unfolding keepFault
-  keep-sheet n = or-first (readFault sheet) _ n
+  pub keep-sheet : (readFault sheet .number ≡ 0 → ⊥) → keep ≡ readFault sheet
+  unfolding keepFault readFault
+  keep-sheet = append-first (readFaults sheet) (lentFaults w tableSize bufferSize)
 
   -- .. or the sizes do
-  pub keep-sizes : readFault sheet .number ≡ 0 → keepFault sheet table buffer ≡ lentFault w table buffer
-  unfolding keepFault
-  keep-sizes z = or-second (readFault sheet) _ z
+  pub keep-sizes : readFault sheet .number ≡ 0 → keep ≡ firstOf (lentFaults w tableSize bufferSize)
+  unfolding keepFault readFault
+  keep-sizes = append-rest (readFaults sheet) (lentFaults w tableSize bufferSize)
 
-  pub keep-faultless : (keepFault sheet table buffer .number ≡ 0) ↔ (WellWritten sheet × LongEnough w table × LongBuffer w buffer)
-  keep-faultless = (
-    λ z.
-        elim (ℕ-discrete (readFault sheet .number) 0) [
-          | yes read ↦
-              let sizes = lent-faultless w table buffer .0 (number-of (sym (keep-sizes read)) ∙ z) in
-              (written.faultless sheet .0 read, sizes .0, sizes .1)
-          | no n ↦ absurd (refuses-too (sym (keep-sheet n)) n z)
-        ],
-    λ h. number-of (keep-sizes (written.faultless sheet .1 (h .0))) ∙ lent-faultless w table buffer .1 (h .1, h .2),
+  pub keep-faultless :
+      (keep .number ≡ 0) ↔ (WellWritten sheet × LongTable w tableSize × LongBuffer w bufferSize)
+  unfolding keepFault readFault
+  keep-faultless = Iff·trans (append-passes (readFaults sheet) (lentFaults w tableSize bufferSize)) (
+    λ (read, lent).
+        let (table, (buffer, _)) = firstOf-passes _ .0 lent in
+        (read-faultless sheet .0 read, table-proper w tableSize table, buffer-proper buffer),
+    λ (read, table, buffer).
+        (read-faultless sheet .1 read, firstOf-passes _ .1 (number-of table, (number-of buffer, tt))),
   )
 
-  pub fill-faultless : keepFault sheet table buffer .number ≡ 0 → fillFault w table .number ≡ 0
-  fill-faultless z = let passed = keep-faultless .0 z in choosing.faultless w table .1 (passed .0 .list, passed .1)
+  pub keep-fills : keep .number ≡ 0 → fillFault w tableSize .number ≡ 0
+  keep-fills z = let passed = keep-faultless .0 z in fill-faultless w tableSize .1 (passed .0 .list, passed .1)
 
   -- a test that its numbers pass
   pub keep-numbered : (ok : ℕ → Bool) → ok 0 ≡ true → ((n : ℕ) → n ≤ 10 → ok n ≡ true) → ok 11 ≡ true → ok 16 ≡ true →
-      ok 17 ≡ true → ok 18 ≡ true → ok 19 ≡ true → Numbered ok (keepFault sheet table buffer)
-  unfolding keepFault lentFault tableFault bufferFault shortFault firstOf
+      ok 17 ≡ true → ok 18 ≡ true → ok 19 ≡ true → Numbered ok keep
+  unfolding keepFault readFault tableFault bufferFault shortFault firstOf
   keep-numbered ok none ten eleven sixteen seventeen eighteen nineteen =
-      search (or-numbered ok, refusedIf-numbered ok, read-numbered ok none ten sixteen seventeen eighteen sheet)
+      append-numbered ok (readFaults sheet) (lentFaults w tableSize bufferSize)
+      (read-numbered ok none ten sixteen seventeen eighteen sheet) (search (or-numbered ok, refusedIf-numbered ok))
 
   -- the first refusal of the call's order
-  pub call-keep : (keepFault sheet table buffer .number ≡ 0 → ⊥) → callFault sheet table buffer ≡ keepFault sheet table buffer
-  unfolding callFault
-  call-keep n = or-first (keepFault sheet table buffer) _ n
+  pub call-keep : (keep .number ≡ 0 → ⊥) → call ≡ keep
+  unfolding callFault keepFault
+  call-keep = append-first (keepFaults sheet tableSize bufferSize) (planFault (weekBest w) ∷ [])
 
   -- where nothing refuses before, it is Choose's
-  pub call-plan : keepFault sheet table buffer .number ≡ 0 → callFault sheet table buffer ≡ chooseAnswer w table .refusal
-  unfolding callFault
+  pub call-plan : keep .number ≡ 0 → call ≡ chooseAnswer w tableSize .refusal
+  unfolding callFault keepFault
   call-plan z =
-      or-second (keepFault sheet table buffer) _ z
-      ∙ sym (plan-refusal w (weekBest w))
-      ∙ ap (λ (p : Plan). p .refusal) (sym (plan-passed w table (fill-faultless z) refl))
+      append-last (keepFaults sheet tableSize bufferSize) (planFault (weekBest w)) (plan-proper (weekBest w)) z
+      ∙ sym (plan-fault w tableSize (keep-fills z))
 
   -- nothing refuses: not before anything is written, and there is a plan
-  pub call-passed : callFault sheet table buffer .number ≡ 0 →
-      (keepFault sheet table buffer .number ≡ 0) × (chooseAnswer w table .refusal .number ≡ 0)
+  pub call-passed : call .number ≡ 0 →
+      (keep .number ≡ 0) × (chooseAnswer w tableSize .refusal .number ≡ 0)
   call-passed z =
-      elim (ℕ-discrete (keepFault sheet table buffer .number) 0)
+      elim (ℕ-discrete (keep .number) 0)
       [ yes e ↦ (e, number-of (sym (call-plan e)) ∙ z) | no n ↦ absurd (refuses-too (sym (call-keep n)) n z) ]
 
   -- 14 is Choose's
-  pub fourteen-plan : callFault sheet table buffer .number ≡ 14 →
-      (keepFault sheet table buffer .number ≡ 0) × (chooseAnswer w table .refusal .number ≡ 14)
-  fourteen-plan f =
+  pub call-no-plan : call .number ≡ 14 →
+      (keep .number ≡ 0) × (chooseAnswer w tableSize .refusal .number ≡ 14)
+  call-no-plan f =
       let other : ℕ → Bool = λ n. not (eqb n 14) in
       let ten : (n : ℕ) → n ≤ 10 → other n ≡ true = λ n l. ap not (ne-eqb n 14 (λ e. omega arith)) in
-      elim (ℕ-discrete (keepFault sheet table buffer .number) 0) [
+      elim (ℕ-discrete (keep .number) 0) [
         | yes z ↦ (z, number-of (sym (call-plan z)) ∙ f)
         | no n ↦
             absurd
             (eqb-false _ _ (not-true _ (keep-numbered other refl ten refl refl refl refl refl)) (number-of (sym (call-keep n)) ∙ f))
       ]
 
-  -- the answer
-  pub answer-refused : {r : Refusal} → callFault sheet table buffer ≡ r → (r .number ≡ 0 → ⊥) →
-      callAnswer sheet table buffer ≡ minusOf (r .number)
+  pub call-answer : Answers call (λ r. minusOf (r .number)) (pos (chooseAnswer w tableSize .total)) answer
   unfolding callAnswer
-  answer-refused e n = unless-refused-by (λ (r : Refusal). minusOf (r .number)) _ e n
-
-  pub answer-passed : callFault sheet table buffer .number ≡ 0 → callAnswer sheet table buffer ≡ pos (chooseAnswer w table .total)
-  unfolding callAnswer
-  answer-passed z = unless-passed _ _ _ z
+  call-answer = answers _ _ _
 
   -- a total is at most 1,048,560, each worth of a sheet having two bytes
-  pub answer-small : callFault sheet table buffer .number ≡ 0 → chooseAnswer w table .total ≤ maxBatches * 65535
+  pub answer-small : call .number ≡ 0 → chooseAnswer w tableSize .total ≤ maxBatches * max16
   answer-small z =
       let passed = call-passed z in
-      let fine = sound w (number-of (keep-faultless .0 (passed .0) .0 .list)) in
-      let names = handed-names w fine (choose-names w table (passed .1)) in
-      let same = backward-take 0 (chooseAnswer w table .choice) (w .count) (w .count) (omega arith) in
-      rw (choose-best w table (passed .1) .summed)
-      (rw same at (total-small w fine (λ i k place recipe. worths-small sheet i k) names))
+      let fine = sound w (keep-faultless .0 (passed .0) .0 .list) in
+      let names = handed-names w fine (choose-names w tableSize (passed .1)) in
+      rw (choose-best w tableSize (passed .1) .summed)
+      (rw (list-choice w (chooseAnswer w tableSize .choice)) at (total-small w fine (worths-small sheet) names))
 
   -- it is a total exactly where nothing refuses
-  pub planned-passes : Planned (callAnswer sheet table buffer) ↔ (callFault sheet table buffer .number ≡ 0)
+  pub planned-passes : Planned answer ↔ (call .number ≡ 0)
   planned-passes = (
     λ planned.
-        elim (ℕ-discrete (callFault sheet table buffer .number) 0)
-        [ yes z ↦ z | no n ↦ absurd (not-minus _ n (sym (answer-refused refl n) ∙ planned .1)) ],
-    λ z. (chooseAnswer w table .total, answer-passed z),
+        elim (ℕ-discrete (call .number) 0)
+        [ yes z ↦ z | no n ↦ absurd (not-minus _ n (sym (call-answer .refused refl n) ∙ planned .1)) ],
+    λ z. (chooseAnswer w tableSize .total, call-answer .passed z),
   )
 
   -- minus 14 is the answer exactly where 14 is the first refusal
-  pub answer-fourteen : (callAnswer sheet table buffer ≡ minusOf 14) ↔ (callFault sheet table buffer .number ≡ 14)
-  answer-fourteen = (
+  pub answer-no-plan : (answer ≡ minusOf 14) ↔ (call .number ≡ 14)
+  answer-no-plan = (
     λ e.
-        elim (ℕ-discrete (callFault sheet table buffer .number) 0) [
-          | yes z ↦ absurd (not-minus 14 (λ f. omega arith) (sym e ∙ answer-passed z))
-          | no n ↦ minus-injective (sym (answer-refused refl n) ∙ e)
+        elim (ℕ-discrete (call .number) 0) [
+          | yes z ↦ absurd (not-minus 14 (λ f. omega arith) (sym e ∙ call-answer .passed z))
+          | no n ↦ minus-injective (sym (call-answer .refused refl n) ∙ e)
         ],
-    λ f. answer-refused refl (λ z. omega arith) ∙ ap minusOf f,
+    λ f. call-answer .refused refl (λ z. omega arith) ∙ ap minusOf f,
   )
 
   -- a total or minus 14 is the answer exactly where nothing refuses before anything is written
-  pub fills-keep-faultless : Fills (callAnswer sheet table buffer) ↔ (keepFault sheet table buffer .number ≡ 0)
+  pub fills-keep-faultless : CallFills answer ↔ (keep .number ≡ 0)
   fills-keep-faultless = (
-    λ fills. ⊎-elim (λ p. call-passed (planned-passes .0 p) .0) (λ e. fourteen-plan (answer-fourteen .0 e) .0) fills,
+    λ fills. ⊎-elim (λ p. call-passed (planned-passes .0 p) .0) (λ e. call-no-plan (answer-no-plan .0 e) .0) fills,
     λ z.
         let same = number-of (call-plan z) in
-        ⊎-elim (λ e. inl (planned-passes .1 (same ∙ e))) (λ e. inr (answer-fourteen .1 (same ∙ e)))
-        (fills-faultless w table .1 (fill-faultless z)),
+        ⊎-elim (λ e. inl (planned-passes .1 (same ∙ e))) (λ e. inr (answer-no-plan .1 (same ∙ e)))
+        (fills-faultless w tableSize .1 (keep-fills z)),
   )
 
 -- the table and the buffer

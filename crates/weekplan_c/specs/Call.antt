@@ -12,53 +12,55 @@ use Rattle.jobs.specs.Choice.{total}
 use Rattle.jobs.specs.Best.{Chosen}
 use Rattle.week.specs.declared.record.Week.{Week}
 use Rattle.week.specs.declared.refusal.Refusal.{Refusal}
-use Rattle.week.specs.Refusal.{accepted, orElse, firstOf, shortFault, unlessRefused}
-use Rattle.planner.specs.Job.{weekJobs}
-use Rattle.planner.specs.Check.{weekChoice, listChoice}
+use Rattle.week.specs.Refusal.{accepted, firstOf, shortFault, unlessRefused, answerBy}
+use Rattle.planner.specs.Job.{weekJobs, weekChoice, listChoice}
 use Rattle.planner.specs.Choose.{tableFault, planFault, weekBest, planChoice, chooseAnswer, tableAfter}
 use Rattle.planner.specs.Run.{logAfter, LongLog, InTime}
 use Rattle.sheet.specs.List.{sheetWeek}
-use Rattle.sheet.specs.Read.{readFault}
+use Rattle.sheet.specs.Read.{readFaults}
 
 -- "19: recipe buffer shorter than n."
 unfoldable pub bufferFault : Week → ℕ → Refusal
 bufferFault w size = shortFault 19 (w .count) size
 
 -- "11; .. 19": what is lent is too short. The sizes are those of the picks table and of the recipe buffer.
-unfoldable pub lentFault : Week → (table buffer : ℕ) → Refusal
-lentFault w table buffer = firstOf (tableFault w table ∷ bufferFault w buffer ∷ [])
+abbrev pub lentFaults : Week → (tableSize bufferSize : ℕ) → List Refusal
+lentFaults w tableSize bufferSize = tableFault w tableSize ∷ bufferFault w bufferSize ∷ []
 
 -- the refusals that keep all that is lent, in their order: "Order: 18; then line by line 16, 17; then 1, 2, 3; then batch by batch
 -- 4 to 10 ..; 11; .. 19"
-unfoldable pub keepFault : List ℕ → (table buffer : ℕ) → Refusal
-keepFault sheet table buffer = orElse (readFault sheet) (lentFault (sheetWeek sheet) table buffer)
+abbrev pub keepFaults : List ℕ → (tableSize bufferSize : ℕ) → List Refusal
+keepFaults sheet tableSize bufferSize = readFaults sheet ++ lentFaults (sheetWeek sheet) tableSize bufferSize
+
+unfoldable pub keepFault : List ℕ → (tableSize bufferSize : ℕ) → Refusal
+keepFault sheet tableSize bufferSize = firstOf (keepFaults sheet tableSize bufferSize)
 
 -- and all of the call's: ".. then 14"
-unfoldable pub callFault : List ℕ → (table buffer : ℕ) → Refusal
-callFault sheet table buffer = orElse (keepFault sheet table buffer) (planFault (weekBest (sheetWeek sheet)))
+unfoldable pub callFault : List ℕ → (tableSize bufferSize : ℕ) → Refusal
+callFault sheet tableSize bufferSize =
+    firstOf (keepFaults sheet tableSize bufferSize ++ (planFault (weekBest (sheetWeek sheet)) ∷ []))
 
 -- "minus the refusal number"
 abbrev pub minusOf : ℕ → ℤ
 minusOf number = negℤ (pos number)
 
 -- "It gets the total, or minus the refusal number."
-unfoldable pub callAnswer : List ℕ → (table buffer : ℕ) → ℤ
-callAnswer sheet table buffer =
-    unlessRefused (callFault sheet table buffer)
-    (pos (chooseAnswer (sheetWeek sheet) table .total))
-    (minusOf (callFault sheet table buffer .number))
+unfoldable pub callAnswer : List ℕ → (tableSize bufferSize : ℕ) → ℤ
+callAnswer sheet tableSize bufferSize =
+    answerBy (callFault sheet tableSize bufferSize) (λ r. minusOf (r .number)) (pos (chooseAnswer (sheetWeek sheet) tableSize .total))
 
 -- "Choosing fills a lent table of bytes." "The table is filled as well when refusal 14 is given." "Only 14 alters lent memory (the
 -- picks table)."
-unfoldable pub picksAfter : List ℕ → (picks : List ℕ) (buffer : ℕ) → List ℕ
-picksAfter sheet picks buffer = unlessRefused (keepFault sheet (length picks) buffer) (tableAfter (sheetWeek sheet) picks) picks
+unfoldable pub picksAfter : List ℕ → (picks : List ℕ) (bufferSize : ℕ) → List ℕ
+picksAfter sheet picks bufferSize =
+    unlessRefused (keepFault sheet (length picks) bufferSize) (tableAfter (sheetWeek sheet) picks) picks
 
 -- "Acceptance writes one byte a batch and keeps the rest of that buffer."
-unfoldable pub recipesAfter : List ℕ → (table : ℕ) (recipes : List ℕ) → List ℕ
-recipesAfter sheet table recipes =
+unfoldable pub recipesAfter : List ℕ → (tableSize : ℕ) (recipes : List ℕ) → List ℕ
+recipesAfter sheet tableSize recipes =
     let w = sheetWeek sheet in
-    unlessRefused (callFault sheet table (length recipes))
-    (planChoice w (chooseAnswer w table) ++ drop (w .count) recipes)
+    unlessRefused (callFault sheet tableSize (length recipes))
+    (planChoice w (chooseAnswer w tableSize) ++ drop (w .count) recipes)
     recipes
 
 -- an answer that is a total: it is not negative
@@ -66,8 +68,8 @@ abbrev pub Planned : ℤ → Type 0
 Planned answer = (sum : ℕ) × (answer ≡ pos sum)
 
 -- an answer with which the table is filled: a total, or minus 14
-abbrev pub Fills : ℤ → Type 0
-Fills answer = Planned answer ⊎ (answer ≡ minusOf 14)
+abbrev pub CallFills : ℤ → Type 0
+CallFills answer = Planned answer ⊎ (answer ≡ minusOf 14)
 
 -- the numbers that the call can refuse with: 1 to 11, 14, 16 to 19
 abbrev pub callNumber : ℕ → Bool

@@ -10,21 +10,22 @@ ghost use mathlib.Core.List.{_++_};
 ghost use Prim.Native.Nat.{_≤_};
 ghost use lib.ListN.{length, take, drop};
 ghost use Rattle.week.specs.Record.{maxBatches};
-ghost use Rattle.planner.specs.Choose.{NoPlan, LongEnough};
+ghost use Rattle.week.specs.Refusal.{firstOf};
+ghost use Rattle.planner.specs.Choose.{NoPlan, LongTable};
 ghost use Rattle.sheet.specs.List.{sheetWeek};
 ghost use Rattle.sheet.specs.Read.{WellWritten};
-ghost use Rattle.weekplan_c.specs.Call.{lentFault, minusOf, callAnswer, picksAfter, recipesAfter};
-ghost use Rattle.weekplan_c.specs.Call.{Planned, BestCall, LongBuffer};
+ghost use Rattle.weekplan_c.specs.Call.{lentFaults, minusOf, callAnswer, picksAfter, recipesAfter, Planned, BestCall};
+ghost use Rattle.weekplan_c.specs.Call.{LongBuffer};
 
 // What refuses to plan a list into a table and a buffer of these sizes: 11, then 19.
-fn lent_fault(week: Week, table: usize, buffer: usize) -> Refusal
-    ensures { λ r. ⌜ r ≡ lentFault week table buffer ⌝ }
+fn lent_fault(week: Week, table_size: usize, buffer_size: usize) -> Refusal
+    ensures { λ r. ⌜ r ≡ firstOf (lentFaults week «table_size» «buffer_size») ⌝ }
 {
-    let fault = table_fault(week, table);
+    let fault = table_fault(week, table_size);
     if fault.number != 0 {
         return fault;
     }
-    if buffer < week.count {
+    if buffer_size < week.count {
         return Refusal::at(19, 0, 0);
     }
     Refusal::none()
@@ -59,7 +60,7 @@ pub extern "C" fn weekplan_choose(sheet: &[u8], picks: &mut [u8], recipes: &mut 
     ensures best { λ r. ⌜ (Planned r → BestCall (sheetWeek (now (sheet .entry))) (now (recipes .exit)) r) ⌝ }
     ensures none { λ r. ⌜ (r ≡ minusOf 14)
         ↔ (WellWritten (now (sheet .entry))
-        × LongEnough (sheetWeek (now (sheet .entry))) (length (now (picks .entry)))
+        × LongTable (sheetWeek (now (sheet .entry))) (length (now (picks .entry)))
         × LongBuffer (sheetWeek (now (sheet .entry))) (length (now (recipes .entry)))
         × NoPlan (sheetWeek (now (sheet .entry)))) ⌝ }
 {

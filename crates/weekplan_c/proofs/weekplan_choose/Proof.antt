@@ -8,21 +8,22 @@ use lib.ListN.{length, take, drop}
 use lib.IntN.{ℤ, pos}
 use mir.Facts.{toZ-ofZ}
 use borrow.Author.Needs.{needs}
+use Rattle.arrays.specs.Bits.{max16}
 use Rattle.week.specs.declared.record.Week.{Week}
 use Rattle.week.specs.declared.refusal.Refusal.{Refusal}
 use Rattle.week.specs.Record.{maxBatches}
-use Rattle.week.proofs.First.{number-of, refuses-too, long-passes}
-use Rattle.week.proofs.Sound.{sound}
+use Rattle.week.proofs.First.{number-of, refuses-too}
+use Rattle.judge.proofs.Sound.{sound}
 use Rattle.planner.specs.declared.choose.Plan.{Plan}
-use Rattle.planner.specs.Choose.{chooseAnswer, NoPlan, LongEnough}
+use Rattle.planner.specs.Choose.{chooseAnswer, NoPlan, LongTable}
 use Rattle.sheet.specs.declared.read.Reading.{Reading}
 use Rattle.sheet.specs.List.{sheetWeek}
 use Rattle.sheet.specs.Read.{readFault, WellWritten}
 use Rattle.sheet.proofs.Demands.{read-passes, read-refusal}
-use Rattle.weekplan_c.specs.Call.{bufferFault, keepFault, callFault, minusOf, callAnswer, picksAfter, recipesAfter}
-use Rattle.weekplan_c.specs.Call.{Planned, BestCall, LongBuffer}
-use Rattle.weekplan_c.proofs.Calling.{keep-sheet, keep-sizes, keep-faultless, call-keep, call-plan, answer-refused}
-use Rattle.weekplan_c.proofs.Calling.{answer-passed, answer-small, picks-filled, picks-kept, recipes-written, recipes-kept}
+use Rattle.weekplan_c.specs.Call.{keepFault, callFault, minusOf, callAnswer, picksAfter, recipesAfter, Planned, BestCall}
+use Rattle.weekplan_c.specs.Call.{LongBuffer}
+use Rattle.weekplan_c.proofs.Calling.{keep-sheet, keep-sizes, keep-faultless, call-keep, call-plan, long-buffer, call-answer}
+use Rattle.weekplan_c.proofs.Calling.{answer-small, picks-filled, picks-kept, recipes-written, recipes-kept}
 use Rattle.weekplan_c.proofs.Demands.{call-best, call-none}
 use Rattle.weekplan_c.proofs.Signed.{as-positive}
 use Rattle.weekplan_c.proofs.weekplan_choose.Statement.{statement}
@@ -37,7 +38,7 @@ module _ (sheet picks recipes : List ℕ) where
       × ((recipes′ ≡ recipesAfter sheet (length picks) recipes)
       × ((Planned answer → BestCall (sheetWeek sheet) recipes′ answer)
       × ((answer ≡ minusOf 14)
-      ↔ (WellWritten sheet × LongEnough (sheetWeek sheet) (length picks) × LongBuffer (sheetWeek sheet) (length recipes)
+      ↔ (WellWritten sheet × LongTable (sheetWeek sheet) (length picks) × LongBuffer (sheetWeek sheet) (length recipes)
       × NoPlan (sheetWeek sheet))))))
 
   promised : {picks′ recipes′ : List ℕ} {answer : ℤ} → answer ≡ callAnswer sheet (length picks) (length recipes) →
@@ -64,7 +65,7 @@ module _ (sheet picks recipes : List ℕ) where
       let keep = refuses-too (sym fault) other in
       let call = call-keep sheet (length picks) (length recipes) keep in
       promised
-      (is ∙ sym (answer-refused sheet (length picks) (length recipes) (call ∙ fault) other))
+      (is ∙ sym (call-answer sheet (length picks) (length recipes) .refused (call ∙ fault) other))
       (sym (picks-kept sheet picks recipes keep))
       (sym (recipes-kept sheet picks recipes (refuses-too (sym call) keep)))
 
@@ -140,13 +141,12 @@ call-of c = call-plan _ _ _ (keep-of (c .before .before)) ∙ ap (λ (p : Plan).
 rooms : (c : tie.After-choose) →
     let read = reading (judged (c .before .before)) in
     (read .read .result .week .count ≤ maxBatches) × (read .read .result .week .count ≤ length (recipesOf read))
-unfolding bufferFault
 rooms c =
     let read = reading (judged (c .before .before)) in
     let passed = keep-faultless (sheetOf read) (length (picksOf read)) (length (recipesOf read)) .0 (keep-of (c .before .before)) in
     let batches = ap (λ (w : Week). w .count) (week-of (judged (c .before .before))) in (
-      omega (arith, batches, sound _ (number-of (passed .0 .list)) .most),
-      omega (arith, batches, long-passes 18 (sheetWeek (sheetOf read) .count) (length (recipesOf read)) .0 (passed .2)),
+      omega (arith, batches, sound _ (passed .0 .list) .most),
+      omega (arith, batches, long-buffer (sheetOf read) (length (picksOf read)) (length (recipesOf read)) .0 (passed .2)),
     )
 
 -- there is a plan, and its total is small
@@ -155,7 +155,7 @@ passed-of : (c : tie.Else3) →
     callFault (sheetOf read) (length (picksOf read)) (length (recipesOf read)) .number ≡ 0
 passed-of c = number-of (call-of (planning c)) ∙ c .if3 .left
 
-total-of : (c : tie.Else3) → planning c .choose .result .total ≤ maxBatches * 65535
+total-of : (c : tie.Else3) → planning c .choose .result .total ≤ maxBatches * max16
 total-of c =
     let made = planning c in
     let read = reading (judged (made .before .before)) in
@@ -204,7 +204,7 @@ returns-3 c =
     promised _ (picksOf read) _
     (toZ-ofZ (record { sfits = c .minus3 .ok })
     ∙ c .minus3 .ensures
-    ∙ sym (answer-refused _ _ _ (call-of made) (none .if3 .taken)))
+    ∙ sym (call-answer _ _ _ .refused (call-of made) (none .if3 .taken)))
     (picks-of made)
     (sym (recipes-kept _ (picksOf read) _ (refuses-too (sym (call-of made)) (none .if3 .taken))))
 
@@ -228,7 +228,7 @@ returns-4 c =
     promised _ _ _
     (as-positive _ (omega (arith, total-of yes))
     ∙ ap (λ (p : Plan). pos (p .total)) (plan-of made)
-    ∙ sym (answer-passed _ _ _ (passed-of yes)))
+    ∙ sym (call-answer _ _ _ .passed (passed-of yes)))
     (picks-of made)
     (c .before .before .before .write-recipes .ensures
     ∙ ap₂ (λ (n : ℕ) (choice : List ℕ). take n choice ++ drop n (recipesOf read))

@@ -5,7 +5,7 @@ use Prim.Native.Nat.{ℕ, _-_, _≤_, _<_}
 use mathlib.Core.Path.{_≡_, ap, _∙_}
 use mathlib.Core.List.{_++_}
 use lib.ListN.{length, take, drop, length-set}
-use Rattle.jobs.proofs.Front.{front-step}
+use Rattle.arrays.proofs.Front.{front-step}
 use Rattle.weekplan_c.proofs.write_recipes.Statement.{statement}
 use Rattle.weekplan_c.proofs.write_recipes.Tie as tie
 

@@ -4,7 +4,7 @@ use native.Mathlib.Omega.{arith}
 use Prim.Native.Nat.{suc, _-_}
 use mathlib.Core.Path.{_≡_}
 use mathlib.Core.Logic.{⊎-elim}
-use Rattle.jobs.specs.Model.{atPosition}
+use Rattle.arrays.specs.Position.{atPosition}
 use Rattle.edf.proofs.RunLoop.{Running, spent-one, spent-none, running-start, running-step, running-end}
 use Rattle.edf.specs.Workload.{workLog}
 use Rattle.edf.proofs.run.run.Statement.{statement}
@@ -26,8 +26,8 @@ cast-minute c = search needs
 add-minute : tie.Need-add-minute Inv-loop μ-loop
 add-minute c = search needs
 
-first-open-requires : tie.Need-first-open-requires Inv-loop μ-loop
-first-open-requires c κs = search needs
+first-pending-requires : tie.Need-first-pending-requires Inv-loop μ-loop
+first-pending-requires c κs = search needs
 
 cast-log : tie.Need-cast-log Inv-loop μ-loop
 cast-log c = search needs
@@ -46,9 +46,9 @@ array-read-left c = search needs
 
 sub-left-2 : tie.Need-sub-left-2 Inv-loop μ-loop
 sub-left-2 c =
-    let k = c .before .first-open .result in
+    let k = c .before .first-pending .result in
     let e : k ≡ suc (k - 1) = omega arith in
-    rw e at (c .before .first-open .ensures .unread (c .if1 .taken))
+    rw e at (c .before .first-pending .ensures .unread (c .if1 .taken))
 
 array-write-left : tie.Need-array-write-left Inv-loop μ-loop
 array-write-left c = search needs
@@ -62,7 +62,7 @@ loop-less c = search needs
 loop-again : tie.Need-loop-again Inv-loop μ-loop
 loop-again c =
     let l = c .before .before .before in
-    let found = c .before .first-open in
+    let found = c .before .first-pending in
     running-step (l .loop .inv) (c .before .before .loop-test .taken) (found .ensures)
     (⊎-elim
     (λ w. rw (w .1) (spent-one (found .result) (l .loop .left) (w .0 .taken) (omega arith)))
@@ -85,7 +85,7 @@ run-spec =
     loop-holds
     cast-minute
     add-minute
-    first-open-requires
+    first-pending-requires
     cast-log
     slice-write-log
     sub-left

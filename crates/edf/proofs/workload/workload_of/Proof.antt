@@ -6,11 +6,11 @@ use Prim.Native.Nat.{_-_}
 use mathlib.Core.Path.{refl, ap, _∙_}
 use mathlib.Core.Bool.{false, not}
 use lib.ListN.{getD}
+use Rattle.arrays.proofs.Stores.{Padding, padding-start, padding-step, padding-end}
 use Rattle.jobs.specs.declared.model.Version.{Version}
-use Rattle.jobs.specs.Model.{maxJobs, noJob, versionOf}
-use Rattle.jobs.proofs.Named.{named-version}
-use Rattle.jobs.proofs.Fills.{Padding, padding-start, padding-step, padding-end}
-use Rattle.edf.specs.Workload.{minutesOf, workloadOf}
+use Rattle.jobs.specs.Model.{maxJobs, noJob, versionOf, minutesOf}
+use Rattle.jobs.proofs.ChoiceArrays.{named-version}
+use Rattle.edf.specs.Workload.{workloadOf}
 use Rattle.edf.proofs.workload.workload_of.Statement.{statement}
 use Rattle.edf.proofs.workload.workload_of.Tie as tie
 

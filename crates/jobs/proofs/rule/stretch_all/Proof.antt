@@ -4,7 +4,7 @@ use borrow.Author.Tests.{not-true, not-false}
 use native.Mathlib.Omega.{arith}
 use Prim.Native.Nat.{_-_}
 use mathlib.Core.Path.{sym, _∙_}
-use Rattle.jobs.proofs.Named.{named-version}
+use Rattle.jobs.proofs.ChoiceArrays.{named-version}
 use Rattle.jobs.proofs.Pass.{Pass, pass-start, pass-step, pass-fails, pass-end}
 use Rattle.jobs.proofs.rule.stretch_all.Statement.{statement}
 use Rattle.jobs.proofs.rule.stretch_all.Tie as tie

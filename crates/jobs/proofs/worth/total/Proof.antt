@@ -2,19 +2,19 @@
 use borrow.Author.Needs.{needs}
 use native.Mathlib.Omega.{arith}
 use Prim.Native.Nat.{_-_}
-use Rattle.jobs.proofs.Named.{named-version}
-use Rattle.jobs.proofs.Sums.{Sum, sum-start, sum-step, sum-end}
+use Rattle.jobs.proofs.ChoiceArrays.{named-version}
+use Rattle.jobs.proofs.Totals.{Totalling, totalling-start, totalling-step, totalling-end}
 use Rattle.jobs.proofs.worth.total.Statement.{statement}
 use Rattle.jobs.proofs.worth.total.Tie as tie
 
 abbrev Inv-loop : tie.InvT-loop
-Inv-loop choice jobs n sum₀ i₀ sum i = Sum jobs choice n sum i
+Inv-loop choice jobs n sum₀ i₀ sum i = Totalling jobs choice n sum i
 
 abbrev μ-loop : tie.MeasureT-loop
 μ-loop choice jobs n sum₀ i₀ sum i = n - i
 
 loop-holds : tie.Need-loop-holds Inv-loop μ-loop
-loop-holds c = sum-start _ _ _
+loop-holds c = totalling-start _ _ _
 
 mul-j : tie.Need-mul-j Inv-loop μ-loop
 mul-j c = search needs
@@ -45,13 +45,13 @@ loop-less c = search needs
 loop-again : tie.Need-loop-again Inv-loop μ-loop
 loop-again c =
     let l = c .before .before .before .before .before in
-    sum-step (l .loop .inv) (omega arith) (c .before .version .ensures) (omega arith)
+    totalling-step (l .loop .inv) (omega arith) (c .before .version .ensures) (omega arith)
 
 cast-result : tie.Need-cast-result Inv-loop μ-loop
-cast-result c = omega (arith, sum-end (c .before .loop .inv) (omega arith))
+cast-result c = omega (arith, totalling-end (c .before .loop .inv) (omega arith))
 
 returns : tie.Need-returns Inv-loop μ-loop
-returns c = sum-end (c .before .loop .inv) (omega arith)
+returns c = totalling-end (c .before .loop .inv) (omega arith)
 
 pub total-spec : {M : Type 1} → statement M
 total-spec =

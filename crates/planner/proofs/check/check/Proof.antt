@@ -4,14 +4,14 @@ use Rattle.jobs.specs.declared.model.JobList.{JobList}
 use Rattle.jobs.specs.Model.{jobsOf, chosen}
 use Rattle.jobs.specs.Choice.{total}
 use Rattle.jobs.specs.Contract.{Answerable, stretched}
-use Rattle.week.specs.Fault.{handedFault}
-use Rattle.week.proofs.First.{number-of, firstOf-none}
+use Rattle.week.specs.Refusal.{firstOf}
+use Rattle.judge.specs.Fault.{handedFaults}
+use Rattle.week.proofs.First.{number-of, refuses-too}
 use Rattle.week.proofs.Owned.{worths-fit}
-use Rattle.week.proofs.Sound.{sound, named}
-use Rattle.planner.specs.Job.{jobListOf, weekJobs}
-use Rattle.planner.specs.Check.{weekChoice}
+use Rattle.judge.proofs.Sound.{sound, choice-passes, handed-passes}
+use Rattle.planner.specs.Job.{jobListOf, weekJobs, weekChoice}
 use Rattle.planner.proofs.Jobs.{handed-names, answerable}
-use Rattle.planner.proofs.Checking.{answer-refused, fault-handed, stretched-refused, stretched-passed}
+use Rattle.planner.proofs.Checking.{check-answers, fault-handed, stretched-refused, stretched-passed}
 use borrow.Author.Needs.{needs}
 use Rattle.planner.proofs.check.check.Statement.{statement}
 use Rattle.planner.proofs.check.check.Tie as tie
@@ -19,20 +19,18 @@ use Rattle.planner.proofs.check.check.Tie as tie
 -- the list and the choice have passed
 passed-both : (c : tie.Else1) →
     let args = c .before .before .before .before .args in
-    handedFault (args .week) (args .choice .now) .number ≡ 0
+    firstOf (handedFaults (args .week) (args .choice .now)) .number ≡ 0
 passed-both c = sym (number-of (c .before .before .handed-fault .ensures)) ∙ c .if1 .left
 
 -- so the choice names a version of each job, and its total fits 32 bits
 has-answer : (c : tie.Else1) →
     let args = c .before .before .before .before .args in
     Answerable (jobListOf (args .week)) (args .choice .now)
-unfolding handedFault
 has-answer c =
     let start = c .before .before .before .before in
-    let list = firstOf-none _ _ (passed-both c) in
-    let names = firstOf-none _ _ (list .1) in
-    let fine = sound _ (list .0) in
-    answerable _ fine (worths-fit (start .args .week) _ (start .good .0)) (handed-names _ fine (named _ _ (names .0)))
+    let (list, names) = handed-passes _ _ .0 (passed-both c) in
+    let fine = sound _ list in
+    answerable _ fine (worths-fit (start .args .week) _ (start .good .0)) (handed-names _ fine (choice-passes _ _ .0 names))
 
 -- and the rule's answer is over the jobs of the week
 stretched-of : (c : tie.After-stretch-all) →
@@ -55,7 +53,7 @@ returns c =
     let fault = c .before .before .before .handed-fault .ensures in
     let refuses = c .before .if1 .taken in
     c .refused .ensures
-    ∙ sym (answer-refused _ _ (fault-handed _ _ (λ z. refuses (number-of fault ∙ z)) ∙ sym fault) refuses)
+    ∙ sym (check-answers _ _ .refused (fault-handed _ _ (refuses-too fault refuses) ∙ sym fault) refuses)
 
 jobs-of-requires : tie.Need-jobs-of-requires
 jobs-of-requires c κs = search needs

@@ -1,5 +1,5 @@
 -- `choose` meets its contract: each return is one of the cases of `Choosing`, and what the buyer asks follows.
-use Prim.Native.Nat.{ℕ, _*_, _≤_, _<_}
+use Prim.Native.Nat.{ℕ, _*_, _≤_}
 use mathlib.Core.Path.{_≡_, sym, ap, ap₂, _∙_}
 use mathlib.Core.Logic.{_↔_}
 use mathlib.Core.List.{List}
@@ -12,20 +12,20 @@ use Rattle.jobs.specs.Model.{jobsOf}
 use Rattle.jobs.specs.Best.{best}
 use Rattle.select.specs.Table.{filled}
 use Rattle.select.specs.Contract.{bestChoice}
+use Rattle.select.proofs.BestChoices.{choice-none}
 use Rattle.week.specs.declared.record.Week.{Week}
 use Rattle.week.specs.declared.refusal.Refusal.{Refusal}
-use Rattle.week.specs.Record.{maxBatches, maxRecipes, batchAt, recipeAt}
-use Rattle.week.specs.Fault.{WellFormed}
+use Rattle.judge.specs.Fault.{WellFormed}
 use Rattle.week.proofs.First.{number-of}
-use Rattle.week.proofs.Owned.{worths-fit}
-use Rattle.week.proofs.Sound.{Sound, sound}
+use Rattle.week.proofs.Owned.{WorthsFit, worths-fit}
+use Rattle.judge.proofs.Sound.{Sound, sound}
 use Rattle.planner.specs.declared.choose.Plan.{Plan}
 use Rattle.planner.specs.Job.{weekJobs}
-use Rattle.planner.specs.Choose.{weekBest, widthOf, fillFault, refusedPlan, planOf, chooseAnswer, tableAfter}
-use Rattle.planner.specs.Choose.{Fills, PicksTable, BestPlan, NoPlan, LongEnough}
+use Rattle.planner.specs.Choose.{weekBest, widthOf, fillFault, refusedPlan, planOf, chooseAnswer, tableAfter, FillsTable}
+use Rattle.planner.specs.Choose.{PicksTable, BestPlan, NoPlan, LongTable}
 use Rattle.planner.proofs.Jobs.{packable, answerable, fillable}
-use Rattle.planner.proofs.Choosing.{faultless, long-enough, plan-refused, plan-passed, table-kept, table-filled}
-use Rattle.planner.proofs.ReadOff.{readable, ReadOff, read-none, read-some, read-names, read-answer}
+use Rattle.planner.proofs.Choosing.{fill-faultless, long-table, plan-refused, plan-passed, table-kept, table-filled}
+use Rattle.planner.proofs.ReadOff.{readable, ReadOff, read-some, read-names, read-answer}
 use Rattle.planner.proofs.Demands.{choose-fills, choose-best, choose-none}
 use Rattle.planner.proofs.choose.choose.Statement.{statement}
 use Rattle.planner.proofs.choose.choose.Tie as tie
@@ -35,9 +35,9 @@ abbrev Promised : Week → List ℕ → List ℕ → Plan → Type 0
 Promised w table after plan =
     (plan ≡ chooseAnswer w (length table))
     × ((after ≡ tableAfter w table)
-    × ((Fills plan → PicksTable w table after)
+    × ((FillsTable plan → PicksTable w table after)
     × ((plan .refusal .number ≡ 0 → BestPlan w plan)
-    × ((plan .refusal .number ≡ 14) ↔ (WellFormed w × LongEnough w (length table) × NoPlan w)))))
+    × ((plan .refusal .number ≡ 14) ↔ (WellFormed w × LongTable w (length table) × NoPlan w)))))
 
 promised : (w : Week) (table after : List ℕ) (plan : Plan) → plan ≡ chooseAnswer w (length table) → after ≡ tableAfter w table →
     Promised w table after plan
@@ -79,13 +79,12 @@ faultless-of : (c : tie.Else1) → fillFault (start c .args .week) (length (star
 faultless-of c = sym (number-of (c .before .before .fill-fault .ensures)) ∙ c .if1 .left
 
 fine : (c : tie.Else1) → Sound (start c .args .week)
-fine c = sound _ (number-of (faultless _ _ .0 (faultless-of c) .0))
+fine c = sound _ (fill-faultless _ _ .0 (faultless-of c) .0)
 
 long : (c : tie.Else1) → start c .args .week .count * widthOf (start c .args .week) ≤ length (start c .args .table .now)
-long c = long-enough _ _ .0 (faultless _ _ .0 (faultless-of c) .1)
+long c = long-table _ _ .0 (fill-faultless _ _ .0 (faultless-of c) .1)
 
-worths : (c : tie.Else1) →
-    (i k : ℕ) → i < maxBatches → k < maxRecipes → recipeAt (batchAt (start c .args .week) i) k .worth < 65536
+worths : (c : tie.Else1) → WorthsFit (start c .args .week)
 worths c = worths-fit (start c .args .week) _ (start c .good .0)
 
 -- what `fill` leaves
@@ -110,7 +109,7 @@ read-of c =
     ∙ ap (λ (list : JobList). bestChoice (best (jobsOf list) (weekOf c .closing))) (full c .before .before .jobs-of .ensures)
 
 absent : (c : tie.Then2) → weekBest (weekOf (c .before .before)) ≡ none
-absent c = read-none (weekOf (c .before .before)) (read-of (c .before .before)) (not-true _ (c .if2 .taken))
+absent c = choice-none (weekBest (weekOf (c .before .before))) (read-of (c .before .before)) (not-true _ (c .if2 .taken))
 
 present : (c : tie.Else2) → ReadOff (weekOf (c .before .before)) (c .before .before .read-off .result .choice)
 present c = read-some (weekOf (c .before .before)) (read-of (c .before .before)) (not-false _ (c .if2 .left))

@@ -5,9 +5,9 @@ use native.Mathlib.Omega.{arith}
 use mathlib.Core.Path.{sym, _∙_}
 use mathlib.Core.Logic.{_↔_}
 use borrow.Author.Needs.{needs}
-use Rattle.week.proofs.First.{short-refuses}
+use Rattle.week.proofs.Passes.{short-refuses}
 use Rattle.planner.specs.Choose.{widthOf, tableFault}
-use Rattle.planner.proofs.Choosing.{long-enough}
+use Rattle.planner.proofs.Choosing.{long-table}
 use Rattle.planner.proofs.choose.table_fault.Statement.{statement}
 use Rattle.planner.proofs.choose.table_fault.Tie as tie
 
@@ -39,7 +39,7 @@ returns-2 c =
     let enough : args .size < args .week .count * widthOf (args .week) → ⊥ =
     λ less. omega (arith, short width .1 less, c .before .if1 .left)
     in
-    c .none .ensures ∙ sym (long-enough _ _ .1 (omega (arith, enough)))
+    c .none .ensures ∙ sym (long-table _ _ .1 (omega (arith, enough)))
 
 pub table-fault-spec : {M : Type 1} → statement M
 table-fault-spec = tie.close (tie.spec row-width-requires div-if1 at-requires returns none-requires returns-2)

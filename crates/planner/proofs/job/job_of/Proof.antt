@@ -3,8 +3,8 @@ use borrow.Author.Needs.{needs}
 use native.Mathlib.Omega.{arith}
 use Prim.Native.Nat.{_-_}
 use mathlib.Core.Path.{refl}
+use Rattle.arrays.proofs.Stores.{Tabulated, tabulated-start, tabulated-step, tabulated-end}
 use Rattle.jobs.specs.Model.{noVersion}
-use Rattle.jobs.proofs.Fills.{Tabulated, tabulated-start, tabulated-step, tabulated-end}
 use Rattle.week.specs.Record.{maxRecipes}
 use Rattle.planner.specs.Job.{versionFrom}
 use Rattle.planner.proofs.job.job_of.Statement.{statement}

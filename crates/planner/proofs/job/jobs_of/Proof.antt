@@ -4,9 +4,9 @@ use native.Mathlib.Omega.{arith}
 use Prim.Native.Nat.{_-_}
 use mathlib.Core.Path.{refl, ap}
 use mathlib.Core.List.{List}
+use Rattle.arrays.proofs.Stores.{Tabulated, tabulated-start, tabulated-step, tabulated-end}
 use Rattle.jobs.specs.declared.model.Job.{Job}
 use Rattle.jobs.specs.Model.{noJob}
-use Rattle.jobs.proofs.Fills.{Tabulated, tabulated-start, tabulated-step, tabulated-end}
 use Rattle.week.specs.Record.{maxBatches, batchAt}
 use Rattle.planner.specs.Job.{jobFrom}
 use Rattle.planner.proofs.job.jobs_of.Statement.{statement}

@@ -6,7 +6,7 @@ use Prim.Native.Nat.{suc, _-_}
 use mathlib.Core.Bool.{false}
 use lib.ListN.{getD}
 use borrow.Author.Needs.{needs}
-use Rattle.jobs.proofs.Fills.{Padding, padding-start, padding-step, padding-end}
+use Rattle.arrays.proofs.Stores.{Padding, padding-start, padding-step, padding-end}
 use Rattle.edf.specs.Run.{idle, outcomeOf}
 use Rattle.edf.specs.Workload.{outcomeAt}
 use Rattle.edf.proofs.Counts.{entries-short, changes-short}

@@ -16,16 +16,15 @@ use Rattle.edf.proofs.Workloads.{workload-log}
 use Rattle.week.specs.declared.record.Week.{Week}
 use Rattle.week.specs.declared.refusal.Refusal.{Refusal}
 use Rattle.week.specs.Record.{spanOf}
-use Rattle.week.specs.Fault.{WellFormed, WellChosen}
+use Rattle.judge.specs.Fault.{WellFormed, WellChosen}
 use Rattle.week.proofs.First.{number-of}
-use Rattle.week.proofs.Sound.{Sound, sound, named}
+use Rattle.judge.proofs.Sound.{Sound, sound, choice-passes}
 use Rattle.planner.specs.declared.run.WeekRun.{WeekRun}
-use Rattle.planner.specs.Job.{jobListOf, weekJobs}
-use Rattle.planner.specs.Check.{weekChoice}
-use Rattle.planner.specs.Run.{runFault, weekLog, logAnswer, refusedRun, runAnswer, logAfter}
-use Rattle.planner.specs.Run.{LongLog, StationLog, LogSays, InTime}
+use Rattle.planner.specs.Job.{jobListOf, weekJobs, weekChoice}
+use Rattle.planner.specs.Run.{runFault, weekLog, logAnswer, refusedRun, runAnswer, logAfter, LongLog, StationLog, LogSays}
+use Rattle.planner.specs.Run.{InTime}
 use Rattle.planner.proofs.Jobs.{handed-names}
-use Rattle.planner.proofs.Running.{run-faultless, run-refused, run-passed, log-kept, log-written, long-log}
+use Rattle.planner.proofs.Running.{run-faultless, run-answers, log-kept, log-written, long-log}
 use Rattle.planner.proofs.Demands.{run-reads, run-says, run-in-time}
 use Rattle.planner.proofs.run.run.Statement.{statement}
 use Rattle.planner.proofs.run.run.Tie as tie
@@ -53,14 +52,14 @@ promised w choice log after answer is same = (
 kept : (w : Week) (choice log : List ℕ) (answer : WeekRun) {r : Refusal} → runFault w choice (length log) ≡ r →
     (r .number ≡ 0 → ⊥) → answer ≡ refusedRun r → Promised w choice log log answer
 kept w choice log answer fault other is =
-    promised w choice log log answer (is ∙ sym (run-refused w choice (length log) fault other))
+    promised w choice log log answer (is ∙ sym (run-answers w choice (length log) .refused fault other))
     (sym (log-kept w choice log fault other))
 
--- the places that a later one looks back to: the start, where nothing has refused, where the span is known
+-- the places that a later one looks back to: the start, where nothing has refused, where the minutes are known
 abbrev start : tie.Else1 → tie.Start
 start c = c .before .before .before .before .before
 
-abbrev passed : tie.After-span → tie.Else1
+abbrev passed : tie.After-minutes → tie.Else1
 passed c = c .before .before .before
 
 -- nothing has refused
@@ -75,10 +74,10 @@ passed-all : (c : tie.Else1) →
 passed-all c = run-faultless _ _ _ .0 (faultless-of c)
 
 fine : (c : tie.Else1) → Sound (start c .args .week)
-fine c = sound _ (number-of (passed-all c .0))
+fine c = sound _ (passed-all c .0)
 
 -- what the station is handed
-work-of : (c : tie.After-span) →
+work-of : (c : tie.After-minutes) →
     let args = start (passed c) .args in
     c .before .workload-of .result ≡ workloadOf (jobListOf (args .week)) (args .choice .now)
 work-of c =
@@ -87,12 +86,12 @@ work-of c =
     ∙ ap (λ (list : JobList). workloadOf list (args .choice .now)) (c .before .before .jobs-of .ensures)
 
 -- the part that is lent has a byte for each minute
-length-part : (c : tie.After-span) →
+length-part : (c : tie.After-minutes) →
     let args = start (passed c) .args in
-    length (take (c .span .result - 0) (args .log .now)) ≡ spanOf (args .week)
+    length (take (c .minutes .result - 0) (args .log .now)) ≡ spanOf (args .week)
 length-part c =
     let args = start (passed c) .args in
-    ap (λ (n : ℕ). length (take n (args .log .now))) (sub-zero _ ∙ c .span .ensures)
+    ap (λ (n : ℕ). length (take n (args .log .now))) (sub-zero _ ∙ c .minutes .ensures)
     ∙ length-take-le (spanOf (args .week)) (args .log .now) (long-log _ _ .0 (passed-all (passed c) .2))
 
 -- what the station leaves in it
@@ -123,10 +122,10 @@ jobs-of-requires c κs = search needs
 workload-of-requires : tie.Need-workload-of-requires
 workload-of-requires c κs =
     let no = c .before in
-    rw (c .jobs-of .ensures) (handed-names _ (fine no) (named _ _ (number-of (passed-all no .1))))
+    rw (c .jobs-of .ensures) (handed-names _ (fine no) (choice-passes _ _ .0 (passed-all no .1)))
 
-span-requires : tie.Need-span-requires
-span-requires c κs = search needs
+minutes-requires : tie.Need-minutes-requires
+minutes-requires c κs = search needs
 
 sub-run-work : tie.Need-sub-run-work
 sub-run-work c = search needs
@@ -155,8 +154,8 @@ returns-2 c =
     promised _ _ _ _ _
     (ran .run-work .ensures .0
     ∙ ap₂ (λ (work : Workload) (log : List ℕ). logAnswer work (args .week .opening) log) (work-of lent) (part-of ran)
-    ∙ sym (run-passed _ _ _ (faultless-of no)))
-    (ap₂ (λ (part : List ℕ) (n : ℕ). part ++ drop n (args .log .now)) (part-of ran) (sub-zero _ ∙ lent .span .ensures)
+    ∙ sym (run-answers _ _ _ .passed (faultless-of no)))
+    (ap₂ (λ (part : List ℕ) (n : ℕ). part ++ drop n (args .log .now)) (part-of ran) (sub-zero _ ∙ lent .minutes .ensures)
     ∙ sym (log-written _ _ _ (faultless-of no)))
 
 pub run-spec : {M : Type 1} → statement M
@@ -168,7 +167,7 @@ run-spec =
     returns
     jobs-of-requires
     workload-of-requires
-    span-requires
+    minutes-requires
     sub-run-work
     part-run-work-start
     part-run-work-end

@@ -22,8 +22,7 @@ element-copy-out-recipe c = search needs
 version-requires : tie.Need-version-requires
 version-requires c κs =
     let given = c .before .before .before .pre in
-    let i = c .before .before .before .args .i in
-    (given .1 .low i (given .0), given .1 .high i (given .0))
+    given .1 .each (c .before .before .before .args .i) (given .0)
 
 mul-stretch : tie.Need-mul-stretch
 mul-stretch c = search needs

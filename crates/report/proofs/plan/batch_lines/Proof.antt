@@ -8,7 +8,7 @@ use lib.ListN.{length}
 use Rattle.report.specs.Report.{batchLines}
 use Rattle.report.specs.Contract.{batchWidth, Puts}
 use Rattle.report.proofs.Putting.{puts-nothing, puts-length, puts-then}
-use Rattle.report.proofs.Lines.{lines-more}
+use Rattle.report.proofs.BatchLines.{lines-more}
 use Rattle.report.proofs.plan.batch_lines.Statement.{statement}
 use Rattle.report.proofs.plan.batch_lines.Tie as tie
 

@@ -15,14 +15,14 @@ use Rattle.report.proofs.plan.plan_text.Statement.{statement}
 use Rattle.report.proofs.plan.plan_text.Tie as tie
 
 -- the places that a later one looks back to
-abbrev checked : tie.After-run → tie.After-check
-checked c = c .before .before .before .before .before
+abbrev checked : tie.After-run-week → tie.After-check
+checked c = c .before .before .before
 
-abbrev start : tie.After-run → tie.Start
+abbrev start : tie.After-run-week → tie.Start
 start c = checked c .before .before .before .before .before
 
-abbrev ran : tie.After-week-line → tie.After-run
-ran c = c .before .before .before
+abbrev ran : tie.After-week-line → tie.After-run-week
+ran c = c .before .before
 
 abbrev begun : tie.After-total-line → tie.After-week-line
 begun c = c .before .before .before .before
@@ -32,17 +32,17 @@ size : (c : tie.Start) → length (c .args .plan .choice) ≡ maxBatches
 size c = search needs
 
 -- what Check and Run answer of the plan
-check-answer : (c : tie.After-run) →
+check-answer : (c : tie.After-run-week) →
     let args = start c .args in
     checked c .check .result ≡ checkAnswer (args .week) (planChoice (args .week) (args .plan))
 check-answer c = let all : start c .args .week .count - 0 ≡ start c .args .week .count = omega arith in rw all at (checked c .check .ensures)
 
-run-answer : (c : tie.After-run) →
+run-answer : (c : tie.After-run-week) →
     let args = start c .args in
-    c .run .result ≡ runAnswer (args .week) (planChoice (args .week) (args .plan)) maxMinutes
+    c .run-week .result ≡ runAnswer (args .week) (planChoice (args .week) (args .plan)) maxMinutes
 run-answer c =
     let all : start c .args .week .count - 0 ≡ start c .args .week .count = omega arith in
-    rw (all, ← c .before .before .before .before .station-log .ensures) at (c .run .ensures .0)
+    rw all at (c .run-week .ensures)
 
 sub-check : tie.Need-sub-check
 sub-check c = search needs
@@ -56,25 +56,19 @@ part-check-end c = omega (arith, size (c .before .before .before), c .before .be
 check-requires : tie.Need-check-requires
 check-requires c κs = search needs
 
-station-log-requires : tie.Need-station-log-requires
-station-log-requires c κs = search needs
+sub-run-week : tie.Need-sub-run-week
+sub-run-week c = search needs
 
-sub-run : tie.Need-sub-run
-sub-run c = search needs
+part-run-week-start : tie.Need-part-run-week-start
+part-run-week-start c = search needs
 
-part-run-start : tie.Need-part-run-start
-part-run-start c = search needs
-
-part-run-end : tie.Need-part-run-end
-part-run-end c =
-    let start = c .before .before .before .before .before .before .before in
+part-run-week-end : tie.Need-part-run-week-end
+part-run-week-end c =
+    let start = c .before .before .before .before .before .before in
     omega (arith, size start, start .pre .1 .most)
 
-slice-aggregate-run : tie.Need-slice-aggregate-run
-slice-aggregate-run c = search needs
-
-run-requires : tie.Need-run-requires
-run-requires c κs = search needs
+run-week-requires : tie.Need-run-week-requires
+run-week-requires c κs = search needs
 
 week-line-requires : tie.Need-week-line-requires
 week-line-requires c κs = search needs
@@ -122,12 +116,10 @@ plan-text-spec =
     part-check-start
     part-check-end
     check-requires
-    station-log-requires
-    sub-run
-    part-run-start
-    part-run-end
-    slice-aggregate-run
-    run-requires
+    sub-run-week
+    part-run-week-start
+    part-run-week-end
+    run-week-requires
     week-line-requires
     total-line-requires
     batch-lines-requires

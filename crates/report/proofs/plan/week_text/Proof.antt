@@ -8,27 +8,21 @@ use Rattle.report.proofs.plan.week_text.Statement.{statement}
 use Rattle.report.proofs.plan.week_text.Tie as tie
 
 -- the places that a later one looks back to
-abbrev start : tie.After-choose → tie.Start
-start c = c .before .before .before .before
+abbrev start : tie.After-choose-week → tie.Start
+start c = c .before .before
 
-abbrev chosen : tie.After-struct-known → tie.After-choose
-chosen c = c .before .before .before
+abbrev chosen : tie.After-struct-known → tie.After-choose-week
+chosen c = c .before .before
 
 -- what Choose answers
-plan-of : (c : tie.After-choose) → c .choose .result ≡ chooseAnswer (start c .args .week) maxPicks
-plan-of c = rw (← c .before .before .picks-table .ensures) at (c .choose .ensures .0)
+plan-of : (c : tie.After-choose-week) → c .choose-week .result ≡ chooseAnswer (start c .args .week) maxPicks
+plan-of c = c .choose-week .ensures
 
-number-is : (c : tie.After-choose) → c .choose .result .refusal .number ≡ chooseAnswer (start c .args .week) maxPicks .refusal .number
+number-is : (c : tie.After-choose-week) → c .choose-week .result .refusal .number ≡ chooseAnswer (start c .args .week) maxPicks .refusal .number
 number-is c = ap (λ (p : Plan). p .refusal .number) (plan-of c)
 
-picks-table-requires : tie.Need-picks-table-requires
-picks-table-requires c κs = search needs
-
-slice-aggregate-choose : tie.Need-slice-aggregate-choose
-slice-aggregate-choose c = search needs
-
-choose-requires : tie.Need-choose-requires
-choose-requires c κs = search needs
+choose-week-requires : tie.Need-choose-week-requires
+choose-week-requires c κs = search needs
 
 refusal-line-requires : tie.Need-refusal-line-requires
 refusal-line-requires c κs = search needs
@@ -62,9 +56,7 @@ pub week-text-spec : {M : Type 1} → statement M
 week-text-spec =
     tie.close
     (tie.spec
-    picks-table-requires
-    slice-aggregate-choose
-    choose-requires
+    choose-week-requires
     refusal-line-requires
     same-length
     returns

@@ -22,8 +22,8 @@ loop-holds c = search needs
 add-below : tie.Need-add-below Inv-loop μ-loop
 add-below c = search needs
 
-span-requires : tie.Need-span-requires Inv-loop μ-loop
-span-requires c κs = search needs
+minutes-of-requires : tie.Need-minutes-of-requires Inv-loop μ-loop
+minutes-of-requires c κs = search needs
 
 add-below-2 : tie.Need-add-below-2 Inv-loop μ-loop
 add-below-2 c = search needs
@@ -83,7 +83,7 @@ case-of-spec =
     first-requires
     loop-holds
     add-below
-    span-requires
+    minutes-of-requires
     add-below-2
     below-requires
     later-requires

@@ -7,7 +7,7 @@ use mathlib.Core.Path.{_≡_, sym, ap, _∙_}
 use mathlib.Core.Logic.{inl, inr, ⊎-elim}
 use mathlib.Core.Bool.{true}
 use lib.ListN.{length, getD}
-use Rattle.select.proofs.Answers.{minutes-read, due-passes, due-fails}
+use Rattle.select.proofs.OfferAnswers.{minutes-read, due-passes, due-fails}
 use Rattle.select.proofs.offer.due_offer.Statement.{statement}
 use Rattle.select.proofs.offer.due_offer.Tie as tie
 

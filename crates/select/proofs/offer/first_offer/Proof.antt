@@ -6,7 +6,7 @@ use Prim.Native.Nat.{_-_, max}
 use mathlib.Core.Path.{_≡_, sym}
 use mathlib.Core.Logic.{⊎-elim}
 use mathlib.Core.Bool.{true}
-use Rattle.select.proofs.Answers.{first-aside, first-early, first-late}
+use Rattle.select.proofs.OfferAnswers.{first-aside, first-early, first-late}
 use Rattle.select.proofs.offer.first_offer.Statement.{statement}
 use Rattle.select.proofs.offer.first_offer.Tie as tie
 

@@ -1,7 +1,7 @@
 -- `offer` meets its contract: the version is read, or it is set aside.
 use borrow.Author.Needs.{needs}
 use native.Mathlib.Omega.{arith}
-use Rattle.select.proofs.Answers.{minutes-read, shift-read, shift-aside}
+use Rattle.select.proofs.OfferAnswers.{minutes-read, shift-read, shift-aside}
 use Rattle.select.proofs.offer.offer.Statement.{statement}
 use Rattle.select.proofs.offer.offer.Tie as tie
 

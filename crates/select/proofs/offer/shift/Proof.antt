@@ -5,8 +5,8 @@ use native.Mathlib.Omega.{arith}
 use Prim.Native.Nat.{ℕ, _-_, max}
 use mathlib.Core.Path.{ap, _∙_}
 use lib.ListN.{getD}
+use Rattle.arrays.proofs.Patches.{Patching, patching-start, patching-step, patching-stood, patching-end}
 use Rattle.select.specs.Row.{shifted}
-use Rattle.select.proofs.Patches.{Patching, patching-start, patching-step, patching-stood, patching-end}
 use Rattle.select.proofs.offer.shift.Statement.{statement}
 use Rattle.select.proofs.offer.shift.Tie as tie
 

@@ -5,9 +5,8 @@ use Prim.Native.Nat.{_+_, _-_, _≤_, _<_, max}
 use mathlib.Core.Path.{ap, _∙_}
 use mathlib.Core.Logic.{⊎-elim}
 use lib.ListN.{length}
-use Rattle.jobs.specs.Model.{maxVersions}
+use Rattle.jobs.specs.Model.{maxVersions, minutesOf}
 use Rattle.select.specs.Word.{maxWorth}
-use Rattle.select.specs.Row.{minutesOf}
 use Rattle.select.proofs.Rows.{Ready, Row, row-start, row-small, level-small}
 use Rattle.select.proofs.RowStep.{first-high, due-small, row-step}
 use Rattle.select.proofs.RowEnd.{row-end}

@@ -4,7 +4,7 @@ use borrow.Author.Needs.{needs}
 use native.Mathlib.Omega.{arith}
 use Prim.Native.Nat.{_-_, max}
 use lib.ListN.{getD}
-use Rattle.select.proofs.Patches.{Patching, patching-start, patching-step, patching-stood, patching-end}
+use Rattle.arrays.proofs.Patches.{Patching, patching-start, patching-step, patching-stood, patching-end}
 use Rattle.select.proofs.row.raise.Statement.{statement}
 use Rattle.select.proofs.row.raise.Tie as tie
 

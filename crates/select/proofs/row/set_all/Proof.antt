@@ -4,8 +4,7 @@ use native.Mathlib.Omega.{arith}
 use Prim.Native.Nat.{_-_}
 use mathlib.Core.Path.{refl}
 use lib.ListN.{length}
-use Rattle.jobs.proofs.Fills.{Tabulated, tabulated-start, tabulated-step}
-use Rattle.select.proofs.Resets.{reset-size, reset-end}
+use Rattle.arrays.proofs.Stores.{Tabulated, tabulated-start, tabulated-step, reset-size, reset-end}
 use Rattle.select.proofs.row.set_all.Statement.{statement}
 use Rattle.select.proofs.row.set_all.Tie as tie
 

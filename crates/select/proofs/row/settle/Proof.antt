@@ -4,8 +4,8 @@ use borrow.Author.Needs.{needs}
 use native.Mathlib.Omega.{arith}
 use Prim.Native.Nat.{_-_}
 use mathlib.Core.Path.{refl}
+use Rattle.arrays.proofs.Maps.{Mapping, mapping-start, mapping-step, mapping-size, mapping-end}
 use Rattle.select.specs.Word.{scorePart, versionPart}
-use Rattle.select.proofs.Maps.{Mapping, mapping-start, mapping-step, mapping-size, mapping-end}
 use Rattle.select.proofs.row.settle.Statement.{statement}
 use Rattle.select.proofs.row.settle.Tie as tie
 

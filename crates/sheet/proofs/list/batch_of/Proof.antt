@@ -6,7 +6,7 @@ use mathlib.Core.List.{List}
 use lib.ListN.{length}
 use borrow.Author.Needs.{needs}
 use borrow.Author.Tests.{ltb-true, ltb-false}
-use Rattle.jobs.proofs.Fills.{Padding, padding-start, padding-step, padding-end}
+use Rattle.arrays.proofs.Stores.{Padding, padding-start, padding-step, padding-end}
 use Rattle.week.specs.Record.{maxRecipes, noRecipe}
 use Rattle.sheet.specs.Hex.{byteAt, wordAt}
 use Rattle.sheet.specs.Frame.{lengthOf}

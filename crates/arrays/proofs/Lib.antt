@@ -1,0 +1,12 @@
+pub mod Cases
+pub mod Tests
+pub mod Each
+pub mod Places
+pub mod Tabulates
+pub mod Stores
+pub mod Maps
+pub mod Patches
+pub mod Front
+pub mod Flattened
+pub mod Sums
+pub mod OwnedArrays

@@ -1,0 +1,5 @@
+pub mod Walk
+pub mod WellFormed
+pub mod DueOrder
+pub mod Sound
+pub mod ListNumbers

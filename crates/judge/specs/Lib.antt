@@ -1,0 +1,3 @@
+pub mod BatchFault
+pub mod Fault
+pub mod Orderly
