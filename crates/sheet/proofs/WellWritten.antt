@@ -12,7 +12,7 @@ use Rattle.sheet.specs.Line.{linesOf}
 use Rattle.sheet.specs.Fault.{maxBytes, sizeFault}
 use Rattle.sheet.specs.List.{sheetWeek}
 use Rattle.sheet.specs.Read.{readFault, WellWritten}
-use Rattle.sheet.proofs.Placed.{placed-some, placed-week, placed-batch, placed-passes}
+use Rattle.sheet.proofs.Placed.{lines-pass}
 
 size-passes : (sheet : List ℕ) → Passes (sizeFault sheet) ↔ (length sheet ≤ maxBytes)
 unfolding sizeFault
@@ -22,14 +22,15 @@ pub read-faultless : (sheet : List ℕ) → (readFault sheet .number ≡ 0) ↔ 
 unfolding readFault
 read-faultless sheet = Iff·trans (firstOf-passes _) (
   λ (size, (lines, (list, _))).
+      let placed = lines-pass (linesOf sheet) .0 lines in
       record {
         short = size-passes sheet .0 size;
-        some = placed-some (linesOf sheet) lines;
-        first = placed-week (linesOf sheet) lines;
-        later = placed-batch (linesOf sheet) lines;
+        some = placed .some;
+        first = placed .week;
+        later = placed .batches;
         list = list-proper (sheetWeek sheet) list;
       },
   λ h.
-      let lines = placed-passes (linesOf sheet) (h .some) (h .first) (h .later) in
-      (size-passes sheet .1 (h .short), (number-of lines, (number-of (h .list), tt))),
+      let lines = lines-pass (linesOf sheet) .1 (record { some = h .some; week = h .first; batches = h .later }) in
+      (size-passes sheet .1 (h .short), (lines, (number-of (h .list), tt))),
 )

@@ -14,7 +14,7 @@ use Rattle.sheet.specs.Contract.{partOf}
 use Rattle.sheet.specs.List.{batchFrom}
 use Rattle.sheet.proofs.Reached.{Reached, reached-start, reached-line, reached-below, reached-step, reached-end}
 use Rattle.sheet.proofs.Frames.{week-length}
-use Rattle.sheet.proofs.Placed.{placed-bytes, placed-week, placed-batch}
+use Rattle.sheet.proofs.Placed.{placed-bytes, lines-pass}
 use Rattle.sheet.proofs.Listed.{Listed, listed-start, listed-more, listed-full, listed-end}
 use Rattle.sheet.proofs.list.week_of.Statement.{statement}
 use Rattle.sheet.proofs.list.week_of.Tie as tie
@@ -33,7 +33,7 @@ first-line c = reached-line (reached-start _) (c .line-end .ensures)
 
 first-length : (c : tie.After-line-end Inv-loop μ-loop) →
     length (partOf (c .before .before .args .sheet .now) 0 (c .line-end .result)) ≡ lengthOf 5
-first-length c = week-length _ (ap frameOf (sym (first-line c)) ∙ placed-week _ (c .before .before .pre))
+first-length c = week-length _ (ap frameOf (sym (first-line c)) ∙ lines-pass _ .0 (c .before .before .pre) .week)
 
 -- the line that the loop has come to
 later-line : (c : tie.After-line-end2 Inv-loop μ-loop) →
@@ -91,7 +91,7 @@ batch-of-requires c κs =
     let line = c .before .before in
     let at = line .before .before in
     ap frameOf (later-line line)
-    ∙ placed-batch _ (at .before .before .before .before .before .before .before .pre) _ (omega arith)
+    ∙ lines-pass _ .0 (at .before .before .before .before .before .before .before .pre) .batches _ (omega arith)
     (reached-below (at .loop .inv .0) (line .line-end2 .ensures))
 
 mul-t20 : tie.Need-mul-t20 Inv-loop μ-loop
