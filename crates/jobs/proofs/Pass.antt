@@ -34,7 +34,7 @@ module _ (jobs : List Job) (choice : List ℕ) (close n : ℕ) where
     pub rest : backward noStretch whole i ≡ stretches (backward noJob jobs i) bound (backward 0 choice i)
     pub filled : Filled noStretch whole (λ k. i ≤ k) array
 
-  length-all : length all ≡ n
+  pub length-all : length all ≡ n
   length-all =
       let same = length-backward noJob jobs n in
       length-stretches (backward noJob jobs n) close (backward 0 choice n) (length-backward 0 choice n ∙ sym same) ∙ same

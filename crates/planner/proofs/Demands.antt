@@ -2,6 +2,7 @@
 -- mean. The contracts say that the code answers what the definitions say, on every input; the theorems here say that the
 -- definitions are what the buyer asked for.
 use Prim.Native.Nat.{ℕ, _-_, _≤_, _<_}
+use native.Mathlib.Decide.{ℕ-discrete}
 use native.Mathlib.Omega.{arith}
 use mathlib.Core.Path.{_≡_, refl, sym, _∙_}
 use mathlib.Core.Logic.{_↔_, _⊎_, inl, inr, ⊎-elim}
@@ -9,11 +10,13 @@ use mathlib.Core.Bool.{true}
 use mathlib.Core.List.{List, [], _∷_, _++_}
 use lib.ListN.{length, getD, drop}
 use borrow.Author.Tests.{eqb-true, not-false}
-use Rattle.arrays.specs.Position.{atPosition}
-use Rattle.jobs.specs.Rule.{meets, failing}
-use Rattle.jobs.specs.Stretches.{stretchAt}
+use Rattle.arrays.specs.Position.{atPosition, forward}
+use Rattle.arrays.proofs.Places.{length-forward, position-beyond}
+use Rattle.jobs.specs.Rule.{meets, failing, stretches}
+use Rattle.jobs.specs.Stretches.{noStretch, stretchAt}
 use Rattle.jobs.specs.Choice.{Higher}
-use Rattle.jobs.proofs.ChoiceArrays.{chosen-placed, names-valid}
+use Rattle.jobs.proofs.ChoiceArrays.{length-choice, chosen-placed, names-valid}
+use Rattle.jobs.proofs.Pass.{length-all}
 use Rattle.jobs.proofs.Rules.{meets-failing}
 use Rattle.jobs.proofs.BestOfAll.{best-some, best-none, none-best}
 use Rattle.edf.specs.Run.{outcomeNumbers}
@@ -21,7 +24,7 @@ use Rattle.select.proofs.Picks.{filled-size}
 use Rattle.select.proofs.Entries.{filled-entry, filled-later}
 use Rattle.select.specs.Table.{entryAt}
 use Rattle.week.specs.declared.record.Week.{Week}
-use Rattle.week.specs.Record.{batchOf, recipeOf, spanOf, readyOf}
+use Rattle.week.specs.Record.{maxBatches, batchOf, recipeOf, spanOf, readyOf}
 use Rattle.week.specs.Refusal.{refused}
 use Rattle.judge.specs.Fault.{WellFormed, WellChosen}
 use Rattle.week.proofs.First.{number-of, refusedIf-none, refuses-too}
@@ -101,6 +104,48 @@ run-refuses w choice size n = run-answers w choice size .refused refl (refuses-t
 pub run-keeps : (w : Week) (choice log : List ℕ) → (runAnswer w choice (length log) .refusal .number ≡ 0 → ⊥) →
     logAfter w choice log ≡ log
 run-keeps w choice log n = log-kept w choice log refl (refuses-too (run-refusal w choice (length log)) n)
+
+-- 01, "Operations": "Places of an answer beyond n hold 0 (in the run's answer for each batch, set aside)." On every input: a refused
+-- answer holds nothing else anywhere.
+pub check-beyond : (w : Week) (choice : List ℕ) (i : ℕ) → w .count < i →
+    atPosition noStretch (checkAnswer w choice .stretches) i ≡ noStretch
+unfolding passed refusedCheck
+check-beyond w choice i past =
+    elim (ℕ-discrete (checkFault w choice .number) 0) [
+      | yes z ↦
+          rw (check-answers w choice .passed z)
+          (position-beyond maxBatches noStretch (forward (stretches (weekJobs w) (w .closing) (weekChoice w choice))) i
+          (omega (
+            arith,
+            length-forward (stretches (weekJobs w) (w .closing) (weekChoice w choice)),
+            length-all (jobListOf w .jobs) choice (w .closing) (w .count),
+          )))
+      | no n ↦ rw (check-answers w choice .refused refl n) (position-beyond maxBatches noStretch [] i (omega arith))
+    ]
+
+pub choose-beyond : (w : Week) (size i : ℕ) → w .count < i → atPosition 0 (chooseAnswer w size .choice) i ≡ 0
+unfolding planOf refusedPlan
+choose-beyond w size i past =
+    elim (ℕ-discrete (chooseAnswer w size .refusal .number) 0) [
+      | yes z ↦
+          let (ks, first) = plan-exists w size z in
+          let whole = length-choice (jobListOf w) ks (best-some (weekJobs w) (w .closing) ks first .valid) in
+          rw (plan-passed w size (fills-faultless w size .0 (inl z)) first)
+          (position-beyond maxBatches 0 (forward ks) i (omega (arith, length-forward ks, whole)))
+      | no n ↦ rw (choose-refuses w size n) (position-beyond maxBatches 0 [] i (omega arith))
+    ]
+
+pub run-beyond : (w : Week) (choice : List ℕ) (size i : ℕ) → w .count < i →
+    atPosition setAside (runAnswer w choice size .batches) i ≡ setAside
+unfolding refusedRun
+run-beyond w choice size i past =
+    elim (ℕ-discrete (runFault w choice size .number) 0) [
+      | yes z ↦
+          let passed = run-faultless w choice size .0 z in
+          rw (run-answers w choice size .passed z)
+          (log-says w (sound w (passed .0)) choice (choice-passes w choice .0 (passed .1)) [] .beyond i past)
+      | no n ↦ rw (run-answers w choice size .refused refl n) (position-beyond maxBatches setAside [] i (omega arith))
+    ]
 
 -- Demand 2: "A plan must meet the backward rule of the ECRTS 2008 paper as 01 writes it; a well-formed list's plan that meets
 -- it is passed ..
