@@ -1,5 +1,6 @@
--- Demand 2: "the desk's minutes stand as written". What the station is given to read of a week, by its records.
-use Prim.Native.Nat.{ℕ, zero, suc, _-_, _≤_, _<_}
+-- Demand 2: "the desk's minutes stand as written". What the core is given of a week, by its records: the job and the version at each
+-- position.
+use Prim.Native.Nat.{ℕ, zero, suc, _≤_, _<_}
 use native.Mathlib.Omega.{arith}
 use mathlib.Core.Path.{_≡_, refl, sym, ap, _∙_}
 use mathlib.Core.Bool.{Bool, true, false, cond, not, Bool·not-not}
@@ -7,18 +8,20 @@ use mathlib.Core.List.{List}
 use lib.ListN.{getD}
 use lib.Dec.{eqb}
 use borrow.Author.Tests.{eqb-true}
-use Rattle.arrays.specs.Position.{atPosition}
+use Rattle.arrays.specs.Position.{atPosition, backward}
+use Rattle.arrays.specs.Sum.{sumTo}
 use Rattle.arrays.proofs.Places.{position-index}
 use Rattle.jobs.specs.declared.model.Version.{Version}
 use Rattle.jobs.specs.declared.model.Job.{Job}
-use Rattle.jobs.specs.Model.{versionOf, versionAt, minutesOf}
+use Rattle.jobs.specs.Model.{noJob, versionOf, versionAt, minutesOf}
+use Rattle.jobs.specs.Choice.{total}
 use Rattle.edf.specs.Workload.{readyAt, minutesAt, asideAt}
 use Rattle.week.specs.declared.record.Recipe.{Recipe}
 use Rattle.week.specs.declared.record.Week.{Week}
 use Rattle.week.specs.Record.{maxRecipes, noRecipe, batchAt, batchOf, readyOf}
 use Rattle.judge.proofs.Sound.{Sound, Named}
-use Rattle.planner.specs.Job.{versionFrom, jobListOf}
-use Rattle.planner.specs.Run.{chosenMinutes}
+use Rattle.planner.specs.Job.{jobFrom, jobListOf, weekJobs, weekChoice}
+use Rattle.planner.specs.Written.{chosenRecipe, chosenMinutes, chosenWorth}
 use Rattle.planner.proofs.Jobs.{version-at, job-at}
 
 -- a recipe of cost 0 is set aside, and has nothing to read either way
@@ -29,39 +32,48 @@ read-cost cost = by-zero (eqb cost 0) refl
     by-zero true e = sym (eqb-true cost 0 e)
     by-zero false e = refl
 
+-- a recipe as a version
+abbrev pub recipeVersion : Recipe → Version
+recipeVersion r = record { read = not (eqb (r .cost) 0); cost = r .cost; worth = r .worth }
+
 module _ (w : Week) (sound : Sound w) where
+  pub job-written : (i : ℕ) → 1 ≤ i → i ≤ w .count → atPosition noJob (jobListOf w .jobs) i ≡ jobFrom (w .opening) (batchOf w i)
+  job-written zero low high = absurd (omega arith)
+  job-written (suc i) low high = job-at w sound i (omega arith)
+
   pub ready-written : (i : ℕ) → 1 ≤ i → i ≤ w .count → readyAt (jobListOf w) i ≡ readyOf (w .opening) (batchOf w i)
-  ready-written zero low high = absurd (omega arith)
-  ready-written (suc i) low high = ap (λ (j : Job). j .ready) (job-at w sound i (omega arith))
+  ready-written i low high = ap (λ (j : Job). j .ready) (job-written i low high)
 
   module _ {choice : List ℕ} (named : Named w choice) where
-    version-written : (i : ℕ) → 1 ≤ i → i ≤ w .count →
-        versionAt (jobListOf w) choice i ≡ versionFrom (batchOf w i) (atPosition 0 choice i - 1)
+    -- the recipe by its index is the one by its number
+    pub version-written : (i : ℕ) → 1 ≤ i → i ≤ w .count →
+        versionAt (jobListOf w) choice i ≡ recipeVersion (chosenRecipe w choice i)
     version-written zero low high = absurd (omega arith)
     version-written (suc i) low high =
         let below : i < w .count = omega arith in
         let k = getD choice i 0 in
         let few : k ≤ maxRecipes = omega (arith, named .each i below, sound .few i below) in
-        ap (λ (j : Job). versionOf j k) (job-at w sound i below) ∙ version-at (w .opening) (batchAt w i) k (named .each i below .0) few
-
-    -- the recipe by its number is the one by its index
-    cost-written : (i : ℕ) → 1 ≤ i → i ≤ w .count →
-        versionFrom (batchOf w i) (atPosition 0 choice i - 1) .cost ≡ chosenMinutes w choice i
-    cost-written zero low high = absurd (omega arith)
-    cost-written (suc i) low high =
-        ap (λ (r : Recipe). r .cost)
-        (sym (position-index noRecipe (batchAt w i .recipes) (getD choice i 0) (named .each i (omega arith) .0)))
+        ap (λ (j : Job). versionOf j k) (job-at w sound i below)
+        ∙ version-at (w .opening) (batchAt w i) k (named .each i below .0) few
+        ∙ ap recipeVersion (sym (position-index noRecipe (batchAt w i .recipes) k (named .each i below .0)))
 
     pub version-cost : (i : ℕ) → 1 ≤ i → i ≤ w .count → versionAt (jobListOf w) choice i .cost ≡ chosenMinutes w choice i
-    version-cost i low high = ap (λ (v : Version). v .cost) (version-written i low high) ∙ cost-written i low high
+    version-cost i low high = ap (λ (v : Version). v .cost) (version-written i low high)
 
     pub minutes-written : (i : ℕ) → 1 ≤ i → i ≤ w .count → minutesAt (jobListOf w) choice i ≡ chosenMinutes w choice i
-    minutes-written i low high =
-        ap minutesOf (version-written i low high) ∙ read-cost _ ∙ cost-written i low high
+    minutes-written i low high = ap minutesOf (version-written i low high) ∙ read-cost (chosenMinutes w choice i)
 
     pub aside-written : (i : ℕ) → 1 ≤ i → i ≤ w .count →
         asideAt (jobListOf w) choice i ≡ eqb (chosenMinutes w choice i) 0
-    aside-written i low high =
-        ap (λ (v : Version). not (v .read)) (version-written i low high)
-        ∙ Bool·not-not _
-        ∙ ap (λ (cost : ℕ). eqb cost 0) (cost-written i low high)
+    aside-written i low high = ap (λ (v : Version). not (v .read)) (version-written i low high) ∙ Bool·not-not _
+
+    -- the total of a choice is the sum of the worths
+    total-to : (n : ℕ) → n ≤ w .count →
+        total (backward noJob (jobListOf w .jobs) n) (backward 0 choice n) ≡ sumTo (chosenWorth w choice) n
+    unfolding sumTo
+    total-to zero within = refl
+    total-to (suc n) within =
+        omega (arith, ap (λ (v : Version). v .worth) (version-written (suc n) (omega arith) within), total-to n (omega arith))
+
+    pub total-written : total (weekJobs w) (weekChoice w choice) ≡ sumTo (chosenWorth w choice) (w .count)
+    total-written = total-to (w .count) (omega arith)

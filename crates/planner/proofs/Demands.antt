@@ -4,17 +4,18 @@
 use Prim.Native.Nat.{ℕ, _-_, _≤_, _<_}
 use native.Mathlib.Decide.{ℕ-discrete}
 use native.Mathlib.Omega.{arith}
-use mathlib.Core.Path.{_≡_, refl, sym, _∙_}
+use mathlib.Core.Path.{_≡_, refl, sym, ap, _∙_}
 use mathlib.Core.Logic.{_↔_, _⊎_, inl, inr, ⊎-elim}
 use mathlib.Core.Bool.{true}
 use mathlib.Core.List.{List, [], _∷_, _++_}
 use lib.ListN.{length, getD, drop}
 use borrow.Author.Tests.{eqb-true, not-false}
 use Rattle.arrays.specs.Position.{atPosition, forward}
+use Rattle.arrays.specs.Sum.{sumTo}
 use Rattle.arrays.proofs.Places.{length-forward, position-beyond}
 use Rattle.jobs.specs.Rule.{meets, failing, stretches}
 use Rattle.jobs.specs.Stretches.{noStretch, stretchAt}
-use Rattle.jobs.specs.Choice.{Higher}
+use Rattle.jobs.specs.Choice.{total, Higher}
 use Rattle.jobs.proofs.ChoiceArrays.{length-choice, chosen-placed, names-valid}
 use Rattle.jobs.proofs.Pass.{length-all}
 use Rattle.jobs.proofs.Rules.{meets-failing}
@@ -36,9 +37,12 @@ use Rattle.planner.specs.Job.{jobListOf, weekJobs, weekChoice}
 use Rattle.planner.specs.Check.{ruleFault, checkFault, passed, refusedCheck, checkAnswer}
 use Rattle.planner.specs.Choose.{widthOf, chooseFault, refusedPlan, planOf, chooseAnswer, tableAfter, planChoice, FillsTable}
 use Rattle.planner.specs.Choose.{PicksTable, BestPlan, NoPlan, LongTable}
-use Rattle.planner.specs.Run.{runFault, weekLog, setAside, refusedRun, runAnswer, logAfter, LongLog, chosenMinutes, unreadAt}
+use Rattle.planner.specs.Written.{chosenMinutes, chosenWorth, writtenStretch, MeetsAsWritten}
+use Rattle.planner.specs.Run.{runFault, weekLog, setAside, refusedRun, runAnswer, logAfter, LongLog, unreadAt}
 use Rattle.planner.specs.Run.{StationLog, LogSays, InTime}
 use Rattle.planner.proofs.Jobs.{handed-names, names-handed, plan-names, list-choice}
+use Rattle.planner.proofs.AsWritten.{total-written}
+use Rattle.planner.proofs.WrittenRule.{rule-written, stretch-written}
 use Rattle.planner.proofs.LateBatch.{late-recipe}
 use Rattle.planner.proofs.Checking.{check-refusal, fault-rule, rule-met, rule-broken, check-answers}
 use Rattle.planner.proofs.Choosing.{long-table, fill-faultless, plan-passed, answer-fault, fills-faultless, plan-exists}
@@ -147,9 +151,19 @@ run-beyond w choice size i past =
       | no n ↦ rw (run-answers w choice size .refused refl n) (position-beyond maxBatches setAside [] i (omega arith))
     ]
 
--- Demand 2: "A plan must meet the backward rule of the ECRTS 2008 paper as 01 writes it; a well-formed list's plan that meets
--- it is passed ..
+-- Demand 2: "The rule that a plan must meet is the backward rule of the ECRTS 2008 paper on multiversion real-time systems, as document
+-- 01 writes it out." "Guessing how long a reading may take is not wanted, so the desk's minutes stand as written." What it asks of the
+-- jobs that a week becomes, it asks of the arrivals, dues and costs that the desk wrote ..
 module _ (w : Week) (choice : List ℕ) (list : WellFormed w) (handed : WellChosen w choice) where
+  pub rule-as-written : (meets (weekJobs w) (w .closing) (weekChoice w choice) ≡ true) ↔ MeetsAsWritten w choice
+  rule-as-written = rule-written w (sound w list) (choice-passes w choice .0 handed)
+
+  -- .. and the stretches that it gives them are those of these numbers.
+  pub stretches-as-written : (i : ℕ) → 1 ≤ i → i ≤ w .count →
+      stretchAt (jobListOf w) choice (w .closing) i ≡ writtenStretch w choice i
+  stretches-as-written = stretch-written w (sound w list) (choice-passes w choice .0 handed)
+
+  -- "For a well-formed list, a plan that meets it is passed ..
   by-rule : checkFault w choice ≡ ruleFault w choice
   by-rule = fault-rule w choice (handed-passes w choice .1 (list, handed))
 
@@ -166,7 +180,7 @@ module _ (w : Week) (choice : List ℕ) (list : WellFormed w) (handed : WellChos
       ∙ by-rule
       ∙ rule-broken w choice (λ z. unmet (meets-failing (weekJobs w) (w .closing) (weekChoice w choice) .1 z))
 
--- .. and no other".
+-- .. and no other is."
 pub record Passed (w : Week) (choice : List ℕ) : Type 0 where
   pub list : WellFormed w
   pub handed : WellChosen w choice
@@ -184,8 +198,25 @@ check-passed w choice z =
           (eqb-true _ _ (not-false _ (refusedIf-none 15 _ 0 refl _ rule)));
     }
 
--- "the station's run is earliest due first, minute by minute, as 01 defines it; the desk's minutes stand as written": a log that
--- Run has written ..
+-- 01: "Check: list and choice, answering the stretches and the total." Of a choice that is passed, each stretch is the one that the
+-- desk's own numbers have, and "The total of a choice is the sum of the chosen worths", those that the desk wrote.
+module _ (w : Week) (choice : List ℕ) (passes : checkAnswer w choice .refusal .number ≡ 0) where
+  met : Passed w choice
+  met = check-passed w choice passes
+
+  answered : checkAnswer w choice ≡ passed w choice
+  answered = check-passes w choice (met .list) (met .handed) (met .meeting)
+
+  pub check-stretches : (i : ℕ) → 1 ≤ i → i ≤ w .count →
+      atPosition noStretch (checkAnswer w choice .stretches) i ≡ writtenStretch w choice i
+  unfolding passed
+  check-stretches = rw answered (stretches-as-written w choice (met .list) (met .handed))
+
+  pub check-total : checkAnswer w choice .total ≡ sumTo (chosenWorth w choice) (w .count)
+  unfolding passed
+  check-total = rw answered (total-written w (sound w (met .list)) (choice-passes w choice .0 (met .handed)))
+
+-- "The station's run is earliest due first, minute by minute, by the rule given there.": a log that Run has written ..
 module _ (w : Week) (choice log : List ℕ) (runs : runAnswer w choice (length log) .refusal .number ≡ 0) where
   nothing-refuses : runFault w choice (length log) .number ≡ 0
   nothing-refuses = number-of (sym (run-refusal w choice (length log))) ∙ runs
@@ -202,7 +233,8 @@ module _ (w : Week) (choice log : List ℕ) (runs : runAnswer w choice (length l
   written : logAfter w choice log ≡ weekLog w choice ++ drop (spanOf w) log
   written = log-written w choice log nothing-refuses
 
-  -- .. has each minute as 01 says, over the arrivals and costs that the desk wrote, and keeps the bytes after them;
+  -- .. has each minute as 01 says, over the arrivals and costs that the desk wrote, and keeps the bytes after them; so here too "the
+  -- desk's minutes stand as written";
   pub run-reads : StationLog w choice log (logAfter w choice log)
   run-reads = rw written (station-log w choice log list-sound choice-named (long-log w (length log) .0 (all-passed .2)))
 
@@ -292,6 +324,9 @@ module _
 
 -- .. and so of the plan that Choose answers.
 module _ (w : Week) (size : ℕ) (planned : chooseAnswer w size .refusal .number ≡ 0) where
+  list-passed : WellFormed w
+  list-passed = fill-faultless w size .0 (fills-faultless w size .0 (inl planned)) .0
+
   -- that plan as a choice ..
   abbrev plan : List ℕ
   plan = planChoice w (chooseAnswer w size)
@@ -301,21 +336,26 @@ module _ (w : Week) (size : ℕ) (planned : chooseAnswer w size .refusal .number
   unfolding planOf
   choose-names =
       let some = plan-exists w size planned in
-      let passed = fills-faultless w size .0 (inl planned) in
-      let fine = sound w (fill-faultless w size .0 passed .0) in
-      rw (plan-passed w size passed (some .1))
+      let fine = sound w list-passed in
+      rw (plan-passed w size (fills-faultless w size .0 (inl planned)) (some .1))
       (names-handed w fine (plan-names w fine (some .0) (best-some (weekJobs w) (w .closing) (some .0) (some .1) .valid)))
 
   -- .. and meets the rule
   pub choose-meets : meets (weekJobs w) (w .closing) (weekChoice w plan) ≡ true
   choose-meets = rw (list-choice w (chooseAnswer w size .choice)) (choose-best w size planned .chosen .meeting)
 
+  -- "the total answered is the sum of its recipes' worths", those that the desk wrote
+  pub choose-total : chooseAnswer w size .total ≡ sumTo (chosenWorth w plan) (w .count)
+  choose-total =
+      choose-best w size planned .summed
+      ∙ ap (total (weekJobs w)) (sym (list-choice w (chooseAnswer w size .choice)))
+      ∙ total-written w (sound w list-passed) choose-names
+
   -- 01: "Run with the same list, with that plan as its choice and with a log that 12 does not catch".
   module _ (log : List ℕ) (long : LongLog w (length log)) where
     pub choose-runs : runAnswer w plan (length log) .refusal .number ≡ 0
     choose-runs =
-        let list = fill-faultless w size .0 (fills-faultless w size .0 (inl planned)) .0 in
-        run-runs w plan (length log) .1 (list, choice-passes w plan .1 choose-names, long)
+        run-runs w plan (length log) .1 (list-passed, choice-passes w plan .1 choose-names, long)
 
     pub choose-in-time : InTime w plan (logAfter w plan log)
     choose-in-time = run-in-time w plan log choose-runs choose-meets

@@ -6,5 +6,6 @@ pub mod Choosing
 pub mod ReadOff
 pub mod Running
 pub mod AsWritten
+pub mod WrittenRule
 pub mod Station
 pub mod Outcomes

@@ -1,5 +1,5 @@
 -- What Run answers of the log that it leaves: the outcome at each position, by the records, and of a choice that meets the rule.
-use Prim.Native.Nat.{ℕ, suc, _+_, _-_, _≤_}
+use Prim.Native.Nat.{ℕ, suc, _≤_}
 use native.Mathlib.Omega.{arith}
 use mathlib.Core.Path.{_≡_, sym, ap, ap₂, _∙_}
 use mathlib.Core.Bool.{Bool, true, false}
@@ -24,7 +24,8 @@ use Rattle.judge.proofs.Sound.{Sound, Named}
 use Rattle.planner.specs.declared.run.BatchRun.{BatchRun}
 use Rattle.planner.specs.declared.run.WeekRun.{WeekRun}
 use Rattle.planner.specs.Job.{jobListOf, weekJobs, weekChoice}
-use Rattle.planner.specs.Run.{weekLog, setAside, logAnswer, chosenMinutes, outcomeSaid, LogSays}
+use Rattle.planner.specs.Written.{chosenMinutes}
+use Rattle.planner.specs.Run.{weekLog, setAside, logAnswer, outcomeSaid, LogSays}
 use Rattle.planner.proofs.AsWritten.{minutes-written, aside-written}
 use Rattle.planner.proofs.Station.{take-week, feasible}
 

@@ -20,7 +20,8 @@ use Rattle.week.specs.declared.record.Week.{Week}
 use Rattle.week.specs.Record.{spanOf, batchOf, readyOf}
 use Rattle.judge.proofs.Sound.{Sound, Named}
 use Rattle.planner.specs.Job.{jobListOf, weekJobs, weekChoice}
-use Rattle.planner.specs.Run.{weekLog, chosenMinutes, unreadAt, StationLog, InTime}
+use Rattle.planner.specs.Written.{chosenMinutes}
+use Rattle.planner.specs.Run.{weekLog, unreadAt, StationLog, InTime}
 use Rattle.planner.proofs.AsWritten.{ready-written, minutes-written}
 
 -- a choice that meets the rule is feasible, and none of its batches is ready before the opening

@@ -1,4 +1,5 @@
 pub mod Job
+pub mod Written
 pub mod Check
 pub mod Choose
 pub mod Run

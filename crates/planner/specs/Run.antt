@@ -12,15 +12,15 @@ use Rattle.edf.specs.declared.outcome.Outcome.the-variants.{SetAside}
 use Rattle.edf.specs.declared.workload.Workload.{Workload}
 use Rattle.edf.specs.Run.{Reads, entries, minutesLeft, minutesBefore, idle, changes, upToLast, outcomeNumbers}
 use Rattle.edf.specs.Workload.{choiceLog, workloadOf, outcomeAt}
-use Rattle.week.specs.declared.record.Recipe.{Recipe}
 use Rattle.week.specs.declared.record.Week.{Week}
 use Rattle.week.specs.declared.refusal.Refusal.{Refusal}
 use Rattle.planner.specs.declared.run.BatchRun.{BatchRun}
 use Rattle.planner.specs.declared.run.WeekRun.{WeekRun}
-use Rattle.week.specs.Record.{maxBatches, batchOf, recipeOf, spanOf, readyOf}
+use Rattle.week.specs.Record.{maxBatches, batchOf, spanOf, readyOf}
 use Rattle.week.specs.Refusal.{accepted, firstOf, shortFault, unlessRefused, answerBy}
 use Rattle.judge.specs.Fault.{handedFaults}
 use Rattle.planner.specs.Job.{jobListOf}
+use Rattle.planner.specs.Written.{chosenMinutes}
 
 -- "12: log shorter than c − t."
 unfoldable pub logFault : Week → ℕ → Refusal
@@ -67,14 +67,6 @@ logAfter w choice log = unlessRefused (runFault w choice (length log)) (weekLog 
 -- 01, "The words of demand 3": a log "that 12 does not catch"
 abbrev pub LongLog : Week → ℕ → Type 0
 LongLog w size = logFault w size ≡ accepted
-
--- the recipe that a choice names at position i, as the desk wrote it
-abbrev pub chosenRecipe : Week → List ℕ → ℕ → Recipe
-chosenRecipe w choice i = recipeOf (batchOf w i) (atPosition 0 choice i)
-
--- the minutes that a choice gives position i, as the desk wrote them
-abbrev pub chosenMinutes : Week → List ℕ → ℕ → ℕ
-chosenMinutes w choice i = chosenRecipe w choice i .cost
 
 -- the minutes of position i that a log has not read when minute m begins
 abbrev pub unreadAt : Week → List ℕ → List ℕ → ℕ → ℕ → ℕ

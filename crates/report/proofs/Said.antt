@@ -23,7 +23,8 @@ use Rattle.planner.specs.declared.run.WeekRun.{WeekRun}
 use Rattle.planner.specs.Job.{jobListOf, weekJobs, weekChoice}
 use Rattle.planner.specs.Check.{passed, checkAnswer}
 use Rattle.planner.specs.Choose.{planChoice}
-use Rattle.planner.specs.Run.{weekLog, setAside, logAnswer, runAnswer, chosenMinutes, outcomeSaid}
+use Rattle.planner.specs.Written.{chosenMinutes}
+use Rattle.planner.specs.Run.{weekLog, setAside, logAnswer, runAnswer, outcomeSaid}
 use Rattle.planner.proofs.Running.{log-enough, run-faultless, run-answers}
 use Rattle.planner.proofs.Station.{take-week}
 use Rattle.planner.proofs.Outcomes.{log-says, finished}

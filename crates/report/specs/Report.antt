@@ -19,7 +19,8 @@ use Rattle.planner.specs.declared.run.WeekRun.{WeekRun}
 use Rattle.planner.specs.Job.{jobListOf}
 use Rattle.planner.specs.Check.{checkAnswer}
 use Rattle.planner.specs.Choose.{maxPicks, planFault, weekBest, planChoice, chooseAnswer}
-use Rattle.planner.specs.Run.{setAside, weekLog, runAnswer, chosenMinutes, outcomeSaid}
+use Rattle.planner.specs.Written.{chosenMinutes}
+use Rattle.planner.specs.Run.{setAside, weekLog, runAnswer, outcomeSaid}
 use Rattle.sheet.specs.List.{sheetWeek}
 use Rattle.sheet.specs.Read.{readFaults, readAnswer}
 use Rattle.report.specs.declared.line.BatchLine.{BatchLine}

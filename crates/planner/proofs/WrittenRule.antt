@@ -1,0 +1,115 @@
+-- The backward rule asks of a week's jobs what it asks of the desk's records, and gives them the same stretches.
+use Prim.Native.Nat.{ℕ, zero, suc, _+_, _-_, _≤_, min}
+use native.Mathlib.Decide.{ℕ-discrete}
+use native.Mathlib.Omega.{arith}
+use mathlib.Core.Path.{_≡_, refl, ap, ap₂, _∙_}
+use mathlib.Core.Logic.{_↔_}
+use mathlib.Core.Bool.{Bool, true, false, cond, not, and-eq-true-iff}
+use mathlib.Core.List.{List}
+use lib.Dec.{leb, eqb}
+use borrow.Author.Tests.{leb-true, le-leb, eqb-true}
+use Rattle.arrays.specs.Position.{atPosition, backward}
+use Rattle.arrays.proofs.Tests.{zero-fails}
+use Rattle.jobs.specs.declared.model.Version.{Version}
+use Rattle.jobs.specs.declared.model.Job.{Job}
+use Rattle.jobs.specs.declared.rule.Stretch.{Stretch}
+use Rattle.jobs.specs.Model.{noJob, versionAt}
+use Rattle.jobs.specs.Rule.{stretchOf, fits, nextBound, meets, stretches}
+use Rattle.jobs.specs.Stretches.{noStretch, stretchesOf, stretchAt}
+use Rattle.jobs.proofs.Pass.{placed-stretches}
+use Rattle.week.specs.declared.record.Week.{Week}
+use Rattle.week.specs.Record.{batchOf, readyOf}
+use Rattle.judge.proofs.Sound.{Sound, Named}
+use Rattle.planner.specs.Job.{jobListOf, weekJobs, weekChoice}
+use Rattle.planner.specs.Written.{chosenMinutes, stretchUnder, boundAfter, writtenStretch, MeetsAsWritten}
+use Rattle.planner.proofs.AsWritten.{job-written, version-written}
+
+-- what the rule asks of a recipe of m minutes, as a test and as it is written: of one that is set aside, nothing
+asks-either : (ready m end x : ℕ) (q : Bool) → eqb m 0 ≡ q →
+    (cond (not q) (leb (ready + m) end) true ≡ true)
+    ↔ (1 ≤ m → ready + m ≤ cond {A = Stretch} (not q) (record { start = end - m; end = end }) (record { start = x; end = x }) .end)
+asks-either ready m end x true aside = (λ h some. absurd (omega (arith, eqb-true m 0 aside)), λ h. refl)
+asks-either ready m end x false read = (λ h some. leb-true _ _ h, λ h. le-leb _ _ (h (zero-fails m .0 read)))
+
+module _ (w : Week) (sound : Sound w) {choice : List ℕ} (named : Named w choice) where
+  -- the job and the version at position i
+  abbrev jobAt : ℕ → Job
+  jobAt i = atPosition noJob (jobListOf w .jobs) i
+
+  abbrev chosenAt : ℕ → Version
+  chosenAt i = versionAt (jobListOf w) choice i
+
+  -- one position under a bound: its stretch, and what the rule asks of it
+  module _ (x i : ℕ) (low : 1 ≤ i) (high : i ≤ w .count) where
+    stretch-under : stretchOf (jobAt i) (chosenAt i) x ≡ stretchUnder w choice x i
+    unfolding stretchOf stretchUnder
+    stretch-under =
+        ap₂ (λ (j : Job) (v : Version). stretchOf j v x) (job-written w sound i low high) (version-written w sound named i low high)
+
+    asks-under :
+        (fits (jobAt i) (chosenAt i) x ≡ true)
+        ↔ (1 ≤ chosenMinutes w choice i →
+        readyOf (w .opening) (batchOf w i) + chosenMinutes w choice i ≤ stretchUnder w choice x i .end)
+    unfolding fits stretchUnder
+    asks-under =
+        rw (version-written w sound named i low high, job-written w sound i low high)
+        (asks-either (readyOf (w .opening) (batchOf w i)) (chosenMinutes w choice i) (min (batchOf w i .due) x) x _ refl)
+
+  -- the bound under which position n + 1 stands leaves the one of position n
+  bound-next : (n : ℕ) → suc n ≤ w .count →
+      nextBound (jobAt (suc n)) (chosenAt (suc n)) (boundAfter w choice (w .count - suc n)) ≡ boundAfter w choice (w .count - n)
+  unfolding nextBound boundAfter
+  bound-next n within =
+      let bound = boundAfter w choice (w .count - suc n) in
+      let here : suc n ≡ w .count - (w .count - suc n) = omega arith in
+      let next : suc (w .count - suc n) ≡ w .count - n = omega arith in
+      ap (λ (s : Stretch). s .start) (stretch-under bound (suc n) (omega arith) within)
+      ∙ ap (λ (i : ℕ). stretchUnder w choice bound i .start) here
+      ∙ ap (boundAfter w choice) next
+
+  -- batches 1 to n under their bound
+  meets-to : (n : ℕ) → n ≤ w .count →
+      (meets (backward noJob (jobListOf w .jobs) n) (boundAfter w choice (w .count - n)) (backward 0 choice n) ≡ true)
+      ↔ ((i : ℕ) → 1 ≤ i → i ≤ n → 1 ≤ chosenMinutes w choice i →
+      readyOf (w .opening) (batchOf w i) + chosenMinutes w choice i ≤ writtenStretch w choice i .end)
+  meets-to zero within = (λ h i low high. absurd (omega arith), λ h. refl)
+  meets-to (suc n) within =
+      let here = asks-under (boundAfter w choice (w .count - suc n)) (suc n) (omega arith) within in
+      let before = meets-to n (omega arith) in
+      rw (bound-next n within) (
+        λ h i low high.
+            let both = and-eq-true-iff _ _ .0 h in
+            elim (ℕ-discrete i (suc n)) [
+              | yes e ↦ rw e (here .0 (both .0))
+              | no other ↦ before .0 (both .1) i low (omega arith)
+            ],
+        λ h.
+            and-eq-true-iff _ _ .1
+            (here .1 (h (suc n) (omega arith) (omega arith)), before .1 (λ i low high. h i low (omega arith))),
+      )
+
+  -- an array that holds their stretches
+  stretches-to : (array : List Stretch) (n : ℕ) → n ≤ w .count →
+      backward noStretch array n
+      ≡ stretches (backward noJob (jobListOf w .jobs) n) (boundAfter w choice (w .count - n)) (backward 0 choice n) →
+      (i : ℕ) → 1 ≤ i → i ≤ n → atPosition noStretch array i ≡ writtenStretch w choice i
+  stretches-to array zero within same i low high = absurd (omega arith)
+  stretches-to array (suc n) within same i low high =
+      let here = stretch-under (boundAfter w choice (w .count - suc n)) (suc n) (omega arith) within in
+      elim (ℕ-discrete i (suc n)) [
+        | yes e ↦ rw e (cc)
+        | no other ↦ stretches-to array n (omega arith) (cc (bound-next n within)) i low (omega arith)
+      ]
+
+  -- the bound of the last batch is the close
+  close-first : boundAfter w choice (w .count - w .count) ≡ w .closing
+  unfolding boundAfter
+  close-first = let none : w .count - w .count ≡ 0 = omega arith in rw none
+
+  pub rule-written : (meets (weekJobs w) (w .closing) (weekChoice w choice) ≡ true) ↔ MeetsAsWritten w choice
+  rule-written = rw close-first at (meets-to (w .count) (omega arith))
+
+  pub stretch-written : (i : ℕ) → 1 ≤ i → i ≤ w .count → stretchAt (jobListOf w) choice (w .closing) i ≡ writtenStretch w choice i
+  stretch-written =
+      stretches-to (stretchesOf (weekJobs w) (w .closing) (weekChoice w choice)) (w .count) (omega arith)
+      (rw close-first (placed-stretches (jobListOf w .jobs) choice (w .closing) (w .count)))
