@@ -1,5 +1,5 @@
 -- The best choice, over every choice and the rule: no search is mentioned here.
-use Prim.Native.Nat.{ℕ, _<_}
+use Prim.Native.Nat.{ℕ, _≤_, _<_}
 use mathlib.Core.Path.{_≡_}
 use mathlib.Core.Logic.{_⊎_}
 use mathlib.Core.Bool.{Bool, true, cond}
@@ -38,6 +38,13 @@ pub record Chosen (js : List Job) (x : ℕ) (ch : List ℕ) : Type 0 where
   pub others : (c : List ℕ) → Valid js c → meets js x c ≡ true → (c ≡ ch → ⊥) →
       (total js c < total js ch) ⊎ ((total js c ≡ total js ch) × Higher ch c)
 
+-- some choice meets the rule; "no choice meets the rule"
+abbrev pub SomeMeets : List Job → ℕ → Type 0
+SomeMeets js x = (c : List ℕ) × Valid js c × (meets js x c ≡ true)
+
+abbrev pub NoneMeets : List Job → ℕ → Type 0
+NoneMeets js x = (c : List ℕ) → Valid js c → meets js x c ≡ true → ⊥
+
 -- the last job's version of a choice; 0 for none
 abbrev pub lastVersion : Option (List ℕ) → ℕ
 lastVersion none = 0
@@ -48,3 +55,8 @@ lastVersion (some (k ∷ ks)) = k
 -- is 0 if no choice exists"
 abbrev pub pick : List Job → ℕ → ℕ
 pick js x = lastVersion (best js x)
+
+-- the same over the rule: above 0, k is the last job's version in the choice that demand 3 asks for; 0, there is none
+pub record PickSays (js : List Job) (x k : ℕ) : Type 0 where
+  pub some : 1 ≤ k → (ks : List ℕ) × Chosen js x (k ∷ ks)
+  pub none : k ≡ 0 → NoneMeets js x

@@ -12,14 +12,15 @@ use lib.ListN.{length, getD, drop}
 use borrow.Author.Tests.{eqb-true, not-false}
 use Rattle.arrays.specs.Position.{atPosition, forward}
 use Rattle.arrays.specs.Sum.{sumTo}
-use Rattle.arrays.proofs.Places.{length-forward, position-beyond}
+use Rattle.arrays.proofs.Places.{length-backward, length-forward, position-beyond}
+use Rattle.jobs.specs.Model.{noJob}
 use Rattle.jobs.specs.Rule.{meets, failing, stretches}
 use Rattle.jobs.specs.Stretches.{noStretch, stretchAt}
 use Rattle.jobs.specs.Choice.{total, Higher}
 use Rattle.jobs.proofs.ChoiceArrays.{length-choice, chosen-placed, names-valid}
 use Rattle.jobs.proofs.Pass.{length-all}
 use Rattle.jobs.proofs.Rules.{meets-failing}
-use Rattle.jobs.proofs.BestOfAll.{best-some, best-none, none-best}
+use Rattle.jobs.proofs.BestOfAll.{best-some, best-none, none-best, pick-says}
 use Rattle.edf.specs.Run.{outcomeNumbers}
 use Rattle.select.proofs.Picks.{filled-size}
 use Rattle.select.proofs.Entries.{filled-entry, filled-later}
@@ -36,7 +37,7 @@ use Rattle.judge.proofs.WellFormed.{list-passes, list-proper}
 use Rattle.planner.specs.Job.{jobListOf, weekJobs, weekChoice}
 use Rattle.planner.specs.Check.{ruleFault, checkFault, passed, refusedCheck, checkAnswer}
 use Rattle.planner.specs.Choose.{widthOf, chooseFault, refusedPlan, planOf, chooseAnswer, tableAfter, planChoice, FillsTable}
-use Rattle.planner.specs.Choose.{PicksTable, BestPlan, NoPlan, LongTable}
+use Rattle.planner.specs.Choose.{firstJobs, PicksTable, BestPlan, NoPlan, LongTable}
 use Rattle.planner.specs.Written.{chosenMinutes, chosenWorth, writtenStretch, MeetsAsWritten}
 use Rattle.planner.specs.Run.{runFault, weekLog, setAside, refusedRun, runAnswer, logAfter, LongLog, unreadAt}
 use Rattle.planner.specs.Run.{StationLog, LogSays, InTime}
@@ -79,17 +80,17 @@ module _ (w : Week) (table : List ℕ) (fills : FillsTable (chooseAnswer w (leng
       record {
         size = filled-size (jobListOf w) (w .opening) (widthOf w) table (long-table w (length table) .0 (passed-both .1));
         entry = λ i x first last from to.
-            filled-entry (jobListOf w) (w .opening) (widthOf w) table
-            (record { first = first; last = last; from = from; to = omega arith });
+            rw (filled-entry (jobListOf w) (w .opening) (widthOf w) table
+            (record { first = first; last = last; from = from; to = omega arith }))
+            (pick-says (firstJobs w i) x (omega (arith, length-backward noJob (jobListOf w .jobs) i)));
         later = filled-later (jobListOf w) (w .opening) (widthOf w) table;
       }
 
   -- .. and "A batch arriving at or after x is never given a recipe there that needs minutes".
   pub late-batch : (i x : ℕ) → 1 ≤ i → i ≤ w .count → w .opening ≤ x → x ≤ w .closing → x ≤ batchOf w i .arrival →
       recipeOf (batchOf w i) (getD (tableAfter w table) (entryAt (w .opening) (widthOf w) i x) 0) .cost ≡ 0
-  late-batch i x first last from to late =
-      rw (choose-fills .entry i x first last from to)
-      (late-recipe w (sound w (passed-both .0)) i x first last late)
+  late-batch i x first last from to =
+      late-recipe w (sound w (passed-both .0)) i x _ first last (choose-fills .entry i x first last from to)
 
 -- Run's contract answers `runAnswer` and leaves `logAfter` on every input. 01: "Run takes any well-formed choice, also one that
 -- breaks the rule", of a well-formed list, with a log that 12 does not catch ..

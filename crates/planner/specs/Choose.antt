@@ -2,7 +2,6 @@
 use Prim.Native.Nat.{ℕ, _+_, _*_, _≤_}
 use mathlib.Core.Path.{_≡_}
 use mathlib.Core.Logic.{_⊎_}
-use mathlib.Core.Bool.{true}
 use mathlib.Core.List.{List, [], _∷_, _++_}
 use mathlib.Core.Option.{Option, none, some}
 use lib.ListN.{length, getD, replicate}
@@ -10,9 +9,8 @@ use Rattle.arrays.specs.Position.{backward}
 use Rattle.arrays.specs.Made.{placed}
 use Rattle.jobs.specs.declared.model.Job.{Job}
 use Rattle.jobs.specs.Model.{noJob}
-use Rattle.jobs.specs.Rule.{meets}
-use Rattle.jobs.specs.Choice.{Valid, total}
-use Rattle.jobs.specs.Best.{best, Chosen, pick}
+use Rattle.jobs.specs.Choice.{total}
+use Rattle.jobs.specs.Best.{best, Chosen, NoneMeets, PickSays}
 use Rattle.select.specs.Table.{filled, entryAt}
 use Rattle.week.specs.declared.record.Week.{Week}
 use Rattle.week.specs.declared.refusal.Refusal.{Refusal}
@@ -89,7 +87,7 @@ firstJobs w i = backward noJob (jobListOf w .jobs) i
 pub record PicksTable (w : Week) (before after : List ℕ) : Type 0 where
   pub size : length after ≡ length before
   pub entry : (i x : ℕ) → 1 ≤ i → i ≤ w .count → w .opening ≤ x → x ≤ w .closing →
-      getD after (entryAt (w .opening) (widthOf w) i x) 0 ≡ pick (firstJobs w i) x
+      PickSays (firstJobs w i) x (getD after (entryAt (w .opening) (widthOf w) i x) 0)
   pub later : (e : ℕ) → w .count * widthOf w ≤ e → getD after e 0 ≡ getD before e 0
 
 -- demand 3: "The chosen plan meets the rule and its total is the sum of its worths; every other choice that meets the rule has a
@@ -100,7 +98,7 @@ pub record BestPlan (w : Week) (plan : Plan) : Type 0 where
 
 -- "no choice meets the rule"
 abbrev pub NoPlan : Week → Type 0
-NoPlan w = (c : List ℕ) → Valid (weekJobs w) c → meets (weekJobs w) (w .closing) c ≡ true → ⊥
+NoPlan w = NoneMeets (weekJobs w) (w .closing)
 
 -- 01, "The words of demand 3": "A table is long enough if 11 does not hold".
 abbrev pub LongTable : Week → ℕ → Type 0
