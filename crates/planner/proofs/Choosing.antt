@@ -12,6 +12,10 @@ use lib.ListN.{length}
 use lib.Dec.{eqb}
 use borrow.Author.Tests.{eqb-false, ne-eqb, not-true}
 use Rattle.arrays.proofs.Cases.{option-cases}
+use Rattle.jobs.specs.Choice.{total}
+use Rattle.jobs.specs.Best.{Chosen}
+use Rattle.jobs.proofs.ChoiceArrays.{chosen-placed}
+use Rattle.jobs.proofs.BestOfAll.{best-some}
 use Rattle.select.specs.Table.{filled}
 use Rattle.week.specs.declared.record.Week.{Week}
 use Rattle.week.specs.declared.refusal.Refusal.{Refusal}
@@ -26,7 +30,7 @@ use Rattle.judge.proofs.ListNumbers.{list-numbered}
 use Rattle.judge.proofs.WellFormed.{list-proper}
 use Rattle.judge.proofs.Sound.{sound}
 use Rattle.planner.specs.declared.choose.Plan.{Plan}
-use Rattle.planner.specs.Job.{weekJobs}
+use Rattle.planner.specs.Job.{jobListOf, weekJobs, weekChoice}
 use Rattle.planner.specs.Choose.{widthOf, maxPicks, tableFault, planFault, weekBest, fillFaults, fillFault, chooseFault}
 use Rattle.planner.specs.Choose.{refusedPlan, planOf, chooseAnswer, tableAfter, FillsTable, LongTable}
 
@@ -151,6 +155,17 @@ module _ (w : Week) (size : ℕ) where
   plan-absent f =
       let passed = fills-faultless .0 (inr f) in
       ⊎-elim (λ e. e) (λ s. absurd (omega (arith, plan-number (plan-passed passed (s .1))))) (option-cases (weekBest w))
+
+  -- a plan is the choice that demand 3 asks for, with its total
+  pub plan-chosen : chooseAnswer w size .refusal .number ≡ 0 →
+      let choice = weekChoice w (chooseAnswer w size .choice) in
+      Chosen (weekJobs w) (w .closing) choice × (chooseAnswer w size .total ≡ total (weekJobs w) choice)
+  unfolding planOf
+  plan-chosen z =
+      let plan = plan-exists z in
+      let chosen = best-some (weekJobs w) (w .closing) (plan .0) (plan .1) in
+      let back = chosen-placed (jobListOf w) (plan .0) (chosen .valid) in
+      rw (plan-passed (fills-faultless .0 (inl z)) (plan .1)) (rw back chosen, rw back)
 
 -- the table
 module _ (w : Week) (table : List ℕ) where

@@ -17,7 +17,7 @@ use Rattle.jobs.specs.Model.{noJob}
 use Rattle.jobs.specs.Rule.{meets, failing, stretches}
 use Rattle.jobs.specs.Stretches.{noStretch, stretchAt}
 use Rattle.jobs.specs.Choice.{total, Higher}
-use Rattle.jobs.proofs.ChoiceArrays.{length-choice, chosen-placed, names-valid}
+use Rattle.jobs.proofs.ChoiceArrays.{length-choice, names-valid}
 use Rattle.jobs.proofs.Pass.{length-all}
 use Rattle.jobs.proofs.Rules.{meets-failing}
 use Rattle.jobs.proofs.BestOfAll.{best-some, best-none, none-best, pick-says}
@@ -37,7 +37,7 @@ use Rattle.judge.proofs.WellFormed.{list-passes, list-proper}
 use Rattle.planner.specs.Job.{jobListOf, weekJobs, weekChoice}
 use Rattle.planner.specs.Check.{ruleFault, checkFault, passed, refusedCheck, checkAnswer}
 use Rattle.planner.specs.Choose.{widthOf, chooseFault, refusedPlan, planOf, chooseAnswer, tableAfter, planChoice, FillsTable}
-use Rattle.planner.specs.Choose.{firstJobs, PicksTable, BestPlan, NoPlan, LongTable}
+use Rattle.planner.specs.Choose.{firstJobs, PicksTable, BestPlan, SomePlan, NoPlan, LongTable}
 use Rattle.planner.specs.Written.{chosenMinutes, chosenWorth, writtenStretch, MeetsAsWritten}
 use Rattle.planner.specs.Run.{runFault, weekLog, setAside, refusedRun, runAnswer, logAfter, LongLog, unreadAt}
 use Rattle.planner.specs.Run.{StationLog, LogSays, InTime}
@@ -47,12 +47,12 @@ use Rattle.planner.proofs.WrittenRule.{rule-written, stretch-written}
 use Rattle.planner.proofs.LateBatch.{late-recipe}
 use Rattle.planner.proofs.Checking.{check-refusal, fault-rule, rule-met, rule-broken, check-answers}
 use Rattle.planner.proofs.Choosing.{long-table, fill-faultless, plan-passed, answer-fault, fills-faultless, plan-exists}
-use Rattle.planner.proofs.Choosing.{plan-absent, table-kept, table-filled}
+use Rattle.planner.proofs.Choosing.{plan-chosen, plan-absent, table-kept, table-filled}
 use Rattle.planner.proofs.Running.{run-refusal, run-faultless, log-kept, log-written, long-log, run-answers}
 use Rattle.planner.proofs.Station.{station-log, week-in-time}
 use Rattle.planner.proofs.Outcomes.{log-says, finished}
 
--- Demand 1: "Any list, in order or damaged, gets a plan or one numbered refusal with its place".
+-- Demand 1: "The answer to any list of batches, in order or damaged, is either a plan or one numbered refusal".
 -- Check's contract answers `checkAnswer` on every input. Where that refuses, it is the first refusal of Check's order and 0
 -- everywhere else.
 pub check-refuses : (w : Week) (choice : List ℕ) → (checkAnswer w choice .refusal .number ≡ 0 → ⊥) →
@@ -65,7 +65,7 @@ pub choose-refuses : (w : Week) (size : ℕ) → (chooseAnswer w size .refusal .
     chooseAnswer w size ≡ refusedPlan (chooseFault w size)
 choose-refuses = answer-fault
 
--- .. and "a refused call alters no lent memory but the one table 01 names".
+-- .. and "A refused call alters no memory it was lent, but for the one table that document 01 names."
 pub choose-keeps : (w : Week) (table : List ℕ) → (FillsTable (chooseAnswer w (length table)) → ⊥) → tableAfter w table ≡ table
 choose-keeps w table n = table-kept w table refl (λ z. n (fills-faultless w (length table) .1 z))
 
@@ -253,18 +253,72 @@ module _ (w : Week) (choice log : List ℕ) (runs : runAnswer w choice (length l
   pub run-says : LogSays w choice (logAfter w choice log) (runAnswer w choice (length log))
   run-says = rw (written, run-answers w choice (length log) .passed nothing-refuses) (log-says w list-sound choice choice-named log)
 
--- Demand 3: "The chosen plan meets the rule and its total is the sum of its worths; every other choice that meets the rule has a
--- smaller total, or the same total and a higher recipe number at the last batch where the two differ" ..
-pub choose-best : (w : Week) (size : ℕ) → chooseAnswer w size .refusal .number ≡ 0 → BestPlan w (chooseAnswer w size)
-unfolding planOf
-choose-best w size z =
-    let plan = plan-exists w size z in
-    let chosen = best-some (weekJobs w) (w .closing) (plan .0) (plan .1) in
-    let back = chosen-placed (jobListOf w) (plan .0) (chosen .valid) in
-    rw (plan-passed w size (fills-faultless w size .0 (inl z)) (plan .1))
-    record { chosen = rw back chosen; summed = rw back }
+-- Demand 3: "In the station's run of the chosen plan, the minutes that each batch gets before its stretch ends number exactly its recipe's
+-- minutes." It holds of every choice that meets the rule, ..
+module _
+    (w : Week) (choice log : List ℕ) (runs : runAnswer w choice (length log) .refusal .number ≡ 0)
+    (meeting : meets (weekJobs w) (w .closing) (weekChoice w choice) ≡ true)
+  where
+    pub run-in-time : InTime w choice (logAfter w choice log)
+    run-in-time =
+        rw (written w choice log runs)
+        (week-in-time w choice log (list-sound w choice log runs) (choice-named w choice log runs) meeting)
 
--- .. "refusal 14 exactly when no choice meets the rule".
+    -- .. so that every batch that is read is finished by the end of its stretch.
+    pub run-finishes : (i : ℕ) → 1 ≤ i → i ≤ w .count → 1 ≤ chosenMinutes w choice i →
+        (f : ℕ)
+        × (outcomeNumbers (atPosition setAside (runAnswer w choice (length log) .batches) i .outcome) ≡ 1 ∷ f ∷ [])
+        × (f ≤ stretchAt (jobListOf w) choice (w .closing) i .end)
+    run-finishes =
+        rw (run-answers w choice (length log) .passed (nothing-refuses w choice log runs))
+        (finished w (list-sound w choice log runs) choice (choice-named w choice log runs) meeting)
+
+-- A plan that Choose answers.
+module _ (w : Week) (size : ℕ) (planned : chooseAnswer w size .refusal .number ≡ 0) where
+  list-passed : WellFormed w
+  list-passed = fill-faultless w size .0 (fills-faultless w size .0 (inl planned)) .0
+
+  -- it as a choice ..
+  abbrev plan : List ℕ
+  plan = planChoice w (chooseAnswer w size)
+
+  -- .. which is well formed
+  pub choose-names : Named w plan
+  unfolding planOf
+  choose-names =
+      let some = plan-exists w size planned in
+      let fine = sound w list-passed in
+      rw (plan-passed w size (fills-faultless w size .0 (inl planned)) (some .1))
+      (names-handed w fine (plan-names w fine (some .0) (best-some (weekJobs w) (w .closing) (some .0) (some .1) .valid)))
+
+  -- "Whatever list a plan is chosen for, the plan meets the rule, and the total answered is the sum of its recipes' worths", those that
+  -- the desk wrote.
+  pub choose-meets : meets (weekJobs w) (w .closing) (weekChoice w plan) ≡ true
+  choose-meets = rw (list-choice w (chooseAnswer w size .choice)) (plan-chosen w size planned .0 .meeting)
+
+  pub choose-total : chooseAnswer w size .total ≡ sumTo (chosenWorth w plan) (w .count)
+  choose-total =
+      plan-chosen w size planned .1
+      ∙ ap (total (weekJobs w)) (sym (list-choice w (chooseAnswer w size .choice)))
+      ∙ total-written w (sound w list-passed) choose-names
+
+  -- 01: "Run with the same list, with that plan as its choice and with a log that 12 does not catch".
+  module _ (log : List ℕ) (long : LongLog w (length log)) where
+    pub choose-runs : runAnswer w plan (length log) .refusal .number ≡ 0
+    choose-runs = run-runs w plan (length log) .1 (list-passed, choice-passes w plan .1 choose-names, long)
+
+    pub choose-in-time : InTime w plan (logAfter w plan log)
+    choose-in-time = run-in-time w plan log choose-runs choose-meets
+
+  -- "Every other choice of one recipe a batch that meets the rule has a smaller total, or the same total and a higher recipe number at the
+  -- last batch where the two differ." With the two before: all that demand 3 says of the plan.
+  pub choose-best : BestPlan w (chooseAnswer w size)
+  choose-best =
+      let best = plan-chosen w size planned in
+      record { chosen = best .0; summed = best .1; in-time = choose-in-time }
+
+-- "A well-formed list, with a table long enough (and a recipe buffer long enough, where one is lent), is refused for want of a plan
+-- exactly when no choice meets the rule, ..
 pub choose-none : (w : Week) (size : ℕ) →
     (chooseAnswer w size .refusal .number ≡ 14) ↔ (WellFormed w × LongTable w size × NoPlan w)
 unfolding planOf refusedPlan
@@ -275,17 +329,17 @@ choose-none w size = (
   λ h. rw (plan-passed w size (fill-faultless w size .1 (h .0, h .1)) (none-best (weekJobs w) (w .closing) (h .2))),
 )
 
--- 01: "and nothing else is refused": a plan exactly where the list is well formed, the table long enough and some choice meets
--- the rule.
+-- .. and is given a plan whenever one does." 01: "and nothing else is refused".
 pub choose-plans : (w : Week) (size : ℕ) →
-    (chooseAnswer w size .refusal .number ≡ 0) ↔ (WellFormed w × LongTable w size × (NoPlan w → ⊥))
+    (chooseAnswer w size .refusal .number ≡ 0) ↔ (WellFormed w × LongTable w size × SomePlan w)
 choose-plans w size = (
   λ z.
       let passed = fill-faultless w size .0 (fills-faultless w size .0 (inl z)) in
-      (passed .0, passed .1, λ no. omega (arith, choose-none w size .1 (passed .0, passed .1, no))),
-  λ h.
-      ⊎-elim (λ z. z) (λ f. absurd (h .2 (choose-none w size .0 f .2)))
-      (fills-faultless w size .1 (fill-faultless w size .1 (h .0, h .1))),
+      let best = plan-chosen w size z .0 in
+      (passed .0, passed .1, (weekChoice w (chooseAnswer w size .choice), best .valid, best .meeting)),
+  λ (list, long, (choice, valid, meeting)).
+      ⊎-elim (λ z. z) (λ f. absurd (choose-none w size .0 f .2 choice valid meeting))
+      (fills-faultless w size .1 (fill-faultless w size .1 (list, long))),
 )
 
 -- So no choice that Check passes is better than the one that Choose answers.
@@ -302,61 +356,3 @@ choose-over-check w size z choice e other =
     let names = handed-names w (sound w (p .list)) (choice-passes w choice .0 (p .handed)) in
     rw (check-passes w choice (p .list) (p .handed) (p .meeting), plan .summed)
     (plan .chosen .others (weekChoice w choice) (names-valid names) (p .meeting) other)
-
--- "in the station's run of the chosen plan the minutes each batch gets before its stretch ends number exactly its recipe's
--- minutes." It holds of every choice that meets the rule, ..
-module _
-    (w : Week) (choice log : List ℕ) (runs : runAnswer w choice (length log) .refusal .number ≡ 0)
-    (meeting : meets (weekJobs w) (w .closing) (weekChoice w choice) ≡ true)
-  where
-    pub run-in-time : InTime w choice (logAfter w choice log)
-    run-in-time =
-        rw (written w choice log runs)
-        (week-in-time w choice log (list-sound w choice log runs) (choice-named w choice log runs) meeting)
-
-    -- .. so that every batch that is read is finished by the end of its stretch ..
-    pub run-finishes : (i : ℕ) → 1 ≤ i → i ≤ w .count → 1 ≤ chosenMinutes w choice i →
-        (f : ℕ)
-        × (outcomeNumbers (atPosition setAside (runAnswer w choice (length log) .batches) i .outcome) ≡ 1 ∷ f ∷ [])
-        × (f ≤ stretchAt (jobListOf w) choice (w .closing) i .end)
-    run-finishes =
-        rw (run-answers w choice (length log) .passed (nothing-refuses w choice log runs))
-        (finished w (list-sound w choice log runs) choice (choice-named w choice log runs) meeting)
-
--- .. and so of the plan that Choose answers.
-module _ (w : Week) (size : ℕ) (planned : chooseAnswer w size .refusal .number ≡ 0) where
-  list-passed : WellFormed w
-  list-passed = fill-faultless w size .0 (fills-faultless w size .0 (inl planned)) .0
-
-  -- that plan as a choice ..
-  abbrev plan : List ℕ
-  plan = planChoice w (chooseAnswer w size)
-
-  -- .. which is well formed
-  pub choose-names : Named w plan
-  unfolding planOf
-  choose-names =
-      let some = plan-exists w size planned in
-      let fine = sound w list-passed in
-      rw (plan-passed w size (fills-faultless w size .0 (inl planned)) (some .1))
-      (names-handed w fine (plan-names w fine (some .0) (best-some (weekJobs w) (w .closing) (some .0) (some .1) .valid)))
-
-  -- .. and meets the rule
-  pub choose-meets : meets (weekJobs w) (w .closing) (weekChoice w plan) ≡ true
-  choose-meets = rw (list-choice w (chooseAnswer w size .choice)) (choose-best w size planned .chosen .meeting)
-
-  -- "the total answered is the sum of its recipes' worths", those that the desk wrote
-  pub choose-total : chooseAnswer w size .total ≡ sumTo (chosenWorth w plan) (w .count)
-  choose-total =
-      choose-best w size planned .summed
-      ∙ ap (total (weekJobs w)) (sym (list-choice w (chooseAnswer w size .choice)))
-      ∙ total-written w (sound w list-passed) choose-names
-
-  -- 01: "Run with the same list, with that plan as its choice and with a log that 12 does not catch".
-  module _ (log : List ℕ) (long : LongLog w (length log)) where
-    pub choose-runs : runAnswer w plan (length log) .refusal .number ≡ 0
-    choose-runs =
-        run-runs w plan (length log) .1 (list-passed, choice-passes w plan .1 choose-names, long)
-
-    pub choose-in-time : InTime w plan (logAfter w plan log)
-    choose-in-time = run-in-time w plan log choose-runs choose-meets

@@ -10,7 +10,7 @@ use Rattle.arrays.specs.Made.{placed}
 use Rattle.jobs.specs.declared.model.Job.{Job}
 use Rattle.jobs.specs.Model.{noJob}
 use Rattle.jobs.specs.Choice.{total}
-use Rattle.jobs.specs.Best.{best, Chosen, NoneMeets, PickSays}
+use Rattle.jobs.specs.Best.{best, Chosen, SomeMeets, NoneMeets, PickSays}
 use Rattle.select.specs.Table.{filled, entryAt}
 use Rattle.week.specs.declared.record.Week.{Week}
 use Rattle.week.specs.declared.refusal.Refusal.{Refusal}
@@ -19,6 +19,7 @@ use Rattle.week.specs.Record.{maxBatches, maxMinutes, spanOf}
 use Rattle.week.specs.Refusal.{accepted, refused, firstOf, shortFault, unlessRefused, answerBy}
 use Rattle.judge.specs.Fault.{listFault}
 use Rattle.planner.specs.Job.{jobListOf, weekJobs, weekChoice, listChoice}
+use Rattle.planner.specs.Run.{logAfter, LongLog, InTime}
 
 -- the minutes from t to c, both included: a row of the picks table has an entry for each
 abbrev pub widthOf : Week → ℕ
@@ -90,13 +91,18 @@ pub record PicksTable (w : Week) (before after : List ℕ) : Type 0 where
       PickSays (firstJobs w i) x (getD after (entryAt (w .opening) (widthOf w) i x) 0)
   pub later : (e : ℕ) → w .count * widthOf w ≤ e → getD after e 0 ≡ getD before e 0
 
--- demand 3: "The chosen plan meets the rule and its total is the sum of its worths; every other choice that meets the rule has a
--- smaller total, or the same total and a higher recipe number at the last batch where the two differ"
+-- demand 3: "the plan meets the rule, and the total answered is the sum of its recipes' worths. Every other choice of one recipe a batch
+-- that meets the rule has a smaller total, or the same total and a higher recipe number at the last batch where the two differ." "In the
+-- station's run of the chosen plan, the minutes that each batch gets before its stretch ends number exactly its recipe's minutes."
 pub record BestPlan (w : Week) (plan : Plan) : Type 0 where
   pub chosen : Chosen (weekJobs w) (w .closing) (weekChoice w (plan .choice))
   pub summed : plan .total ≡ total (weekJobs w) (weekChoice w (plan .choice))
+  pub in-time : (log : List ℕ) → LongLog w (length log) → InTime w (planChoice w plan) (logAfter w (planChoice w plan) log)
 
--- "no choice meets the rule"
+-- some choice meets the rule; "no choice meets the rule"
+abbrev pub SomePlan : Week → Type 0
+SomePlan w = SomeMeets (weekJobs w) (w .closing)
+
 abbrev pub NoPlan : Week → Type 0
 NoPlan w = NoneMeets (weekJobs w) (w .closing)
 

@@ -72,7 +72,7 @@ LongLog w size = logFault w size ≡ accepted
 abbrev pub unreadAt : Week → List ℕ → List ℕ → ℕ → ℕ → ℕ
 unreadAt w choice log m = minutesLeft (chosenMinutes w choice) (take (m - w .opening) log)
 
--- demand 2: "the station's run is earliest due first, minute by minute, as 01 defines it". 01: "For each minute from t to c − 1,
+-- demand 2: "The station's run is earliest due first, minute by minute, by the rule given there." 01: "For each minute from t to c − 1,
 -- the station reads the first batch in list order that has s at or before this minute and minutes left to read." "Bytes after
 -- entry c − t − 1 keep their values."
 pub record StationLog (w : Week) (choice before after : List ℕ) : Type 0 where
@@ -97,7 +97,7 @@ pub record LogSays (w : Week) (choice log : List ℕ) (answer : WeekRun) : Type 
       outcomeNumbers (atPosition setAside (answer .batches) i .outcome) ≡ outcomeSaid w choice (take (spanOf w) log) i
   pub beyond : (i : ℕ) → w .count < i → atPosition setAside (answer .batches) i ≡ setAside
 
--- demand 3: "the minutes each batch gets before its stretch ends number exactly its recipe's minutes". No stretch ends after the
+-- demand 3: "the minutes that each batch gets before its stretch ends number exactly its recipe's minutes". No stretch ends after the
 -- close, so these are minutes of the week.
 abbrev pub InTime : Week → List ℕ → List ℕ → Type 0
 InTime w choice log =

@@ -11,7 +11,7 @@ ghost use mathlib.Core.Logic.{_↔_};
 ghost use lib.ListN.{length};
 ghost use Rattle.judge.specs.Fault.{WellFormed};
 ghost use Rattle.planner.specs.Choose.{widthOf, tableFault, fillFault, chooseAnswer, tableAfter, refusedPlan, FillsTable};
-ghost use Rattle.planner.specs.Choose.{PicksTable, BestPlan, NoPlan, LongTable};
+ghost use Rattle.planner.specs.Choose.{PicksTable, BestPlan, SomePlan, NoPlan, LongTable};
 
 // A table that is long enough for every list: a row for each batch, with an entry for each closing minute, both ends counted.
 pub const MAX_PICKS: usize = Week::MAX_BATCHES * (Week::MAX_MINUTES as usize + 1);
@@ -73,6 +73,8 @@ pub fn choose(week: Week, table: &mut [u8]) -> Plan
     ensures best { λ r. ⌜ (r .refusal .number ≡ 0 → BestPlan week r) ⌝ }
     ensures none { λ r. ⌜ (r .refusal .number ≡ 14)
         ↔ (WellFormed week × LongTable week (length (now (table .entry))) × NoPlan week) ⌝ }
+    ensures plans { λ r. ⌜ (r .refusal .number ≡ 0)
+        ↔ (WellFormed week × LongTable week (length (now (table .entry))) × SomePlan week) ⌝ }
 {
     let fault = fill_fault(week, table.len());
     if fault.number != 0 {

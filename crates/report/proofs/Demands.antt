@@ -12,7 +12,7 @@ use Rattle.week.specs.Record.{maxMinutes}
 use Rattle.week.proofs.First.{number-of, refuses-too, append-first, append-last}
 use Rattle.planner.specs.declared.choose.Plan.{Plan}
 use Rattle.planner.specs.Check.{checkAnswer}
-use Rattle.planner.specs.Choose.{maxPicks, planFault, weekBest, planChoice, chooseAnswer, BestPlan, NoPlan}
+use Rattle.planner.specs.Choose.{maxPicks, planFault, weekBest, planChoice, chooseAnswer, BestPlan, SomePlan}
 use Rattle.planner.specs.Run.{weekLog, runAnswer}
 use Rattle.planner.proofs.Choosing.{picks-enough, fill-faultless, plan-fault, plan-proper}
 use Rattle.planner.proofs.Demands.{choose-best, choose-plans, choose-names, choose-meets}
@@ -84,7 +84,7 @@ module _ (sheet : List ℕ) where
       [ yes z ↦ (z, number-of (sym (fault-plan z)) ∙ none) | no f ↦ absurd (refuses-too (sym (fault-sheet f)) f none) ]
 
   -- .. "and nothing else is refused."
-  pub report-plans : (reportFault sheet .number ≡ 0) ↔ (WellWritten sheet × (NoPlan w → ⊥))
+  pub report-plans : (reportFault sheet .number ≡ 0) ↔ (WellWritten sheet × SomePlan w)
   report-plans = (
     λ none.
         let both = report-passed none in

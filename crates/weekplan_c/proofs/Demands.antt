@@ -18,7 +18,7 @@ use Rattle.week.specs.Record.{maxBatches}
 use Rattle.week.proofs.First.{number-of}
 use Rattle.judge.proofs.Sound.{sound}
 use Rattle.planner.specs.Job.{listChoice}
-use Rattle.planner.specs.Choose.{maxPicks, planChoice, chooseAnswer, PicksTable, NoPlan, LongTable}
+use Rattle.planner.specs.Choose.{maxPicks, planChoice, chooseAnswer, PicksTable, SomePlan, NoPlan, LongTable}
 use Rattle.planner.specs.Run.{runAnswer, LongLog}
 use Rattle.planner.proofs.Choosing.{picks-enough, fills-faultless}
 use Rattle.planner.proofs.Demands.{choose-fills, choose-best, choose-none, choose-plans, choose-names, choose-runs, choose-in-time}
@@ -160,8 +160,7 @@ module _ (sheet : List ℕ) (tableSize bufferSize : ℕ) where
   -- rule.
   pub call-plans :
       Planned (callAnswer sheet tableSize bufferSize)
-      ↔ (WellWritten sheet × LongTable (sheetWeek sheet) tableSize × LongBuffer (sheetWeek sheet) bufferSize
-      × (NoPlan (sheetWeek sheet) → ⊥))
+      ↔ (WellWritten sheet × LongTable (sheetWeek sheet) tableSize × LongBuffer (sheetWeek sheet) bufferSize × SomePlan (sheetWeek sheet))
   call-plans = (
     λ planned.
         let none = call-passed sheet tableSize bufferSize (planned-passes sheet tableSize bufferSize .0 planned) in

@@ -22,22 +22,23 @@ use Rattle.judge.proofs.Sound.{Sound, sound}
 use Rattle.planner.specs.declared.choose.Plan.{Plan}
 use Rattle.planner.specs.Job.{weekJobs}
 use Rattle.planner.specs.Choose.{weekBest, widthOf, fillFault, refusedPlan, planOf, chooseAnswer, tableAfter, FillsTable}
-use Rattle.planner.specs.Choose.{PicksTable, BestPlan, NoPlan, LongTable}
+use Rattle.planner.specs.Choose.{PicksTable, BestPlan, SomePlan, NoPlan, LongTable}
 use Rattle.planner.proofs.Jobs.{packable, answerable, fillable}
 use Rattle.planner.proofs.Choosing.{fill-faultless, long-table, plan-refused, plan-passed, table-kept, table-filled}
 use Rattle.planner.proofs.ReadOff.{readable, ReadOff, read-some, read-names, read-answer}
-use Rattle.planner.proofs.Demands.{choose-fills, choose-best, choose-none}
+use Rattle.planner.proofs.Demands.{choose-fills, choose-best, choose-none, choose-plans}
 use Rattle.planner.proofs.choose.choose.Statement.{statement}
 use Rattle.planner.proofs.choose.choose.Tie as tie
 
--- what `choose` promises of its plan and of the table after it: the last three follow from the first two
+-- what `choose` promises of its plan and of the table after it: the last four follow from the first two
 abbrev Promised : Week → List ℕ → List ℕ → Plan → Type 0
 Promised w table after plan =
     (plan ≡ chooseAnswer w (length table))
     × ((after ≡ tableAfter w table)
     × ((FillsTable plan → PicksTable w table after)
     × ((plan .refusal .number ≡ 0 → BestPlan w plan)
-    × ((plan .refusal .number ≡ 14) ↔ (WellFormed w × LongTable w (length table) × NoPlan w)))))
+    × (((plan .refusal .number ≡ 14) ↔ (WellFormed w × LongTable w (length table) × NoPlan w))
+    × ((plan .refusal .number ≡ 0) ↔ (WellFormed w × LongTable w (length table) × SomePlan w))))))
 
 promised : (w : Week) (table after : List ℕ) (plan : Plan) → plan ≡ chooseAnswer w (length table) → after ≡ tableAfter w table →
     Promised w table after plan
@@ -47,7 +48,10 @@ promised w table after plan answer same = (
     same,
     (
       rw (answer, same) (choose-fills w table),
-      (rw answer (choose-best w (length table)), rw answer (choose-none w (length table))),
+      (
+        rw answer (choose-best w (length table)),
+        (rw answer (choose-none w (length table)), rw answer (choose-plans w (length table))),
+      ),
     ),
   ),
 )
