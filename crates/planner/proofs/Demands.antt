@@ -164,7 +164,7 @@ module _ (w : Week) (choice : List ℕ) (list : WellFormed w) (handed : WellChos
       stretchAt (jobListOf w) choice (w .closing) i ≡ writtenStretch w choice i
   stretches-as-written = stretch-written w (sound w list) (choice-passes w choice .0 handed)
 
-  -- "For a well-formed list, a plan that meets it is passed ..
+  -- "For a well-formed list, a plan that meets it is passed" ..
   by-rule : checkFault w choice ≡ ruleFault w choice
   by-rule = fault-rule w choice (handed-passes w choice .1 (list, handed))
 
@@ -181,7 +181,7 @@ module _ (w : Week) (choice : List ℕ) (list : WellFormed w) (handed : WellChos
       ∙ by-rule
       ∙ rule-broken w choice (λ z. unmet (meets-failing (weekJobs w) (w .closing) (weekChoice w choice) .1 z))
 
--- .. and no other is."
+-- .. "and no other is."
 pub record Passed (w : Week) (choice : List ℕ) : Type 0 where
   pub list : WellFormed w
   pub handed : WellChosen w choice
@@ -318,7 +318,7 @@ module _ (w : Week) (size : ℕ) (planned : chooseAnswer w size .refusal .number
       record { chosen = best .0; summed = best .1; in-time = choose-in-time }
 
 -- "A well-formed list, with a table long enough (and a recipe buffer long enough, where one is lent), is refused for want of a plan
--- exactly when no choice meets the rule, ..
+-- exactly when no choice meets the rule" ..
 pub choose-none : (w : Week) (size : ℕ) →
     (chooseAnswer w size .refusal .number ≡ 14) ↔ (WellFormed w × LongTable w size × NoPlan w)
 unfolding planOf refusedPlan
@@ -329,7 +329,7 @@ choose-none w size = (
   λ h. rw (plan-passed w size (fill-faultless w size .1 (h .0, h .1)) (none-best (weekJobs w) (w .closing) (h .2))),
 )
 
--- .. and is given a plan whenever one does." 01: "and nothing else is refused".
+-- .. "and is given a plan whenever one does." 01: "and nothing else is refused".
 pub choose-plans : (w : Week) (size : ℕ) →
     (chooseAnswer w size .refusal .number ≡ 0) ↔ (WellFormed w × LongTable w size × SomePlan w)
 choose-plans w size = (

@@ -12,6 +12,7 @@ use lib.ListN.{length, getD, drop}
 use lib.IntN.{ℤ, pos, natAbs}
 use lib.Seq.{take-at}
 use borrow.Author.Tests.{le-leb}
+use Rattle.arrays.specs.Sum.{sumTo}
 use Rattle.arrays.proofs.Front.{length-kept, later-kept}
 use Rattle.week.specs.declared.record.Week.{Week}
 use Rattle.week.specs.Record.{maxBatches}
@@ -19,9 +20,10 @@ use Rattle.week.proofs.First.{number-of}
 use Rattle.judge.proofs.Sound.{sound}
 use Rattle.planner.specs.Job.{listChoice}
 use Rattle.planner.specs.Choose.{maxPicks, planChoice, chooseAnswer, PicksTable, SomePlan, NoPlan, LongTable}
+use Rattle.planner.specs.Written.{chosenWorth}
 use Rattle.planner.specs.Run.{runAnswer, LongLog}
 use Rattle.planner.proofs.Choosing.{picks-enough, fills-faultless}
-use Rattle.planner.proofs.Demands.{choose-fills, choose-best, choose-none, choose-plans, choose-names, choose-runs, choose-in-time}
+use Rattle.planner.proofs.Demands.{choose-fills, choose-names, choose-total, choose-runs, choose-best, choose-none, choose-plans}
 use Rattle.planner.proofs.Jobs.{list-choice}
 use Rattle.sheet.specs.List.{sheetWeek}
 use Rattle.sheet.specs.Read.{WellWritten}
@@ -32,8 +34,8 @@ use Rattle.weekplan_c.proofs.Calling.{call-answer, long-buffer, answer-
 use Rattle.weekplan_c.proofs.Calling.{fills-keep-faultless, picks-filled, picks-kept, recipes-written, recipes-kept}
 
 module _ (sheet : List ℕ) (tableSize bufferSize : ℕ) where
-  -- Demand 1: "Any list, in order or damaged, gets a plan or one numbered refusal ..": 01 gives the call the number alone, "minus
-  -- the refusal number". Any bytes get a total, or minus the number of the first refusal of the call's order ..
+  -- Demand 1: "The answer to any list of batches, in order or damaged, is either a plan or one numbered refusal": 01 gives the call the
+  -- number alone, "minus the refusal number". Any bytes get a total, or minus the number of the first refusal of the call's order ..
   pub call-refuses : (Planned (callAnswer sheet tableSize bufferSize) → ⊥) →
       callAnswer sheet tableSize bufferSize ≡ minusOf (callFault sheet tableSize bufferSize .number)
   call-refuses n = call-answer sheet tableSize bufferSize .refused refl (λ z. n (planned-passes sheet tableSize bufferSize .1 z))
@@ -68,7 +70,7 @@ module _ (sheet picks recipes : List ℕ) where
   abbrev answer : ℤ
   answer = callAnswer sheet (length picks) (length recipes)
 
-  -- "a refused call alters no lent memory but the one table 01 names".
+  -- "A refused call alters no memory it was lent, but for the one table that document 01 names."
   pub call-keeps-recipes : (Planned answer → ⊥) → recipesAfter sheet (length picks) recipes ≡ recipes
   call-keeps-recipes n = recipes-kept sheet picks recipes (λ z. n (planned-passes sheet (length picks) (length recipes) .1 z))
 
@@ -103,8 +105,8 @@ module _ (sheet picks recipes : List ℕ) where
         long-buffer sheet (length picks) (length recipes) .0 (passed .2)
 
     -- 01: totals are "answered in 32" bits; the greatest is 16 × 65,535.
-    pub call-total : planned .0 ≤ 1048560
-    call-total =
+    pub call-total-small : planned .0 ≤ 1048560
+    call-total-small =
         omega (
           arith,
           answer-small sheet (length picks) (length recipes) none,
@@ -122,9 +124,17 @@ module _ (sheet picks recipes : List ℕ) where
         rw (recipes-written sheet picks recipes none)
         (length-kept plan recipes (w .count) whole long, later-kept plan recipes (w .count) whole 0)
 
-    -- Demand 3: "The chosen plan meets the rule and its total is the sum of its worths; every other choice that meets the rule has
-    -- a smaller total, or the same total and a higher recipe number at the last batch where the two differ" ..; "in the station's
-    -- run of the chosen plan the minutes each batch gets before its stretch ends number exactly its recipe's minutes."
+    -- Demand 3: "the total answered is the sum of its recipes' worths", those that the desk wrote.
+    pub call-total :
+        answer ≡ pos (sumTo (chosenWorth w (listChoice w (recipesAfter sheet (length picks) recipes))) (w .count))
+    call-total =
+        call-answer sheet (length picks) (length recipes) .passed none
+        ∙ ap pos (rw call-writes (choose-total w (length picks) chosen))
+
+    -- "Whatever list a plan is chosen for, the plan meets the rule, and the total answered is the sum of its recipes' worths. Every other
+    -- choice of one recipe a batch that meets the rule has a smaller total, or the same total and a higher recipe number at the last batch
+    -- where the two differ." "In the station's run of the chosen plan, the minutes that each batch gets before its stretch ends number
+    -- exactly its recipe's minutes."
     pub call-best : BestCall w (recipesAfter sheet (length picks) recipes) answer
     call-best =
         let best = choose-best w (length picks) chosen in
@@ -132,7 +142,7 @@ module _ (sheet picks recipes : List ℕ) where
         record {
           chosen = rw (call-writes, same) (best .chosen);
           summed = rw (call-writes, same) (call-answer sheet (length picks) (length recipes) .passed none ∙ ap pos (best .summed));
-          in-time = rw call-writes (choose-in-time w (length picks) chosen);
+          in-time = rw call-writes (best .in-time);
         }
 
     -- 01: "Run with the same list, with that plan as its choice and with a log that 12 does not catch": Run takes it.
@@ -141,7 +151,8 @@ module _ (sheet picks recipes : List ℕ) where
     call-runs = rw call-writes (choose-runs w (length picks) chosen)
 
 module _ (sheet : List ℕ) (tableSize bufferSize : ℕ) where
-  -- .. "refusal 14 exactly when no choice meets the rule".
+  -- "A well-formed list, with a table long enough (and a recipe buffer long enough, where one is lent), is refused for want of a plan
+  -- exactly when no choice meets the rule" ..
   pub call-none :
       (callAnswer sheet tableSize bufferSize ≡ minusOf 14)
       ↔ (WellWritten sheet × LongTable (sheetWeek sheet) tableSize × LongBuffer (sheetWeek sheet) bufferSize × NoPlan (sheetWeek sheet))
@@ -156,8 +167,7 @@ module _ (sheet : List ℕ) (tableSize bufferSize : ℕ) where
         answer-no-plan sheet tableSize bufferSize .1 (number-of (call-plan sheet tableSize bufferSize passed) ∙ fourteen),
   )
 
-  -- "and nothing else is refused": a total exactly where the sheet gives a list, both sizes are enough and some choice meets the
-  -- rule.
+  -- .. "and is given a plan whenever one does." 01: "and nothing else is refused".
   pub call-plans :
       Planned (callAnswer sheet tableSize bufferSize)
       ↔ (WellWritten sheet × LongTable (sheetWeek sheet) tableSize × LongBuffer (sheetWeek sheet) bufferSize × SomePlan (sheetWeek sheet))

@@ -75,9 +75,10 @@ CallFills answer = Planned answer ⊎ (answer ≡ minusOf 14)
 abbrev pub callNumber : ℕ → Bool
 callNumber n = leb n 11 || (eqb n 14 || (leb 16 n && leb n 19))
 
--- demand 3 of the call: "The chosen plan meets the rule and its total is the sum of its worths; every other choice that meets the
--- rule has a smaller total, or the same total and a higher recipe number at the last batch where the two differ"; "in the
--- station's run of the chosen plan the minutes each batch gets before its stretch ends number exactly its recipe's minutes"
+-- demand 3 of the call: "the plan meets the rule, and the total answered is the sum of its recipes' worths. Every other choice of one
+-- recipe a batch that meets the rule has a smaller total, or the same total and a higher recipe number at the last batch where the two
+-- differ." "In the station's run of the chosen plan, the minutes that each batch gets before its stretch ends number exactly its recipe's
+-- minutes."
 pub record BestCall (w : Week) (recipes : List ℕ) (answer : ℤ) : Type 0 where
   pub chosen : Chosen (weekJobs w) (w .closing) (weekChoice w (listChoice w recipes))
   pub summed : answer ≡ pos (total (weekJobs w) (weekChoice w (listChoice w recipes)))

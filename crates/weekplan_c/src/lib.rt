@@ -12,6 +12,7 @@ ghost use lib.ListN.{length, take, drop};
 ghost use Rattle.week.specs.Record.{maxBatches};
 ghost use Rattle.week.specs.Refusal.{firstOf};
 ghost use Rattle.planner.specs.Choose.{NoPlan, LongTable};
+ghost use Rattle.planner.specs.Choose.{SomePlan};
 ghost use Rattle.sheet.specs.List.{sheetWeek};
 ghost use Rattle.sheet.specs.Read.{WellWritten};
 ghost use Rattle.weekplan_c.specs.Call.{lentFaults, minusOf, callAnswer, picksAfter, recipesAfter, Planned, BestCall};
@@ -63,6 +64,11 @@ pub extern "C" fn weekplan_choose(sheet: &[u8], picks: &mut [u8], recipes: &mut 
         × LongTable (sheetWeek (now (sheet .entry))) (length (now (picks .entry)))
         × LongBuffer (sheetWeek (now (sheet .entry))) (length (now (recipes .entry)))
         × NoPlan (sheetWeek (now (sheet .entry)))) ⌝ }
+    ensures plans { λ r. ⌜ Planned r
+        ↔ (WellWritten (now (sheet .entry))
+        × LongTable (sheetWeek (now (sheet .entry))) (length (now (picks .entry)))
+        × LongBuffer (sheetWeek (now (sheet .entry))) (length (now (recipes .entry)))
+        × SomePlan (sheetWeek (now (sheet .entry)))) ⌝ }
 {
     let reading = read(sheet);
     let sheet_fault = reading.refusal;

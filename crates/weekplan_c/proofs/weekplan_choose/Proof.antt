@@ -15,7 +15,7 @@ use Rattle.week.specs.Record.{maxBatches}
 use Rattle.week.proofs.First.{number-of, refuses-too}
 use Rattle.judge.proofs.Sound.{sound}
 use Rattle.planner.specs.declared.choose.Plan.{Plan}
-use Rattle.planner.specs.Choose.{chooseAnswer, NoPlan, LongTable}
+use Rattle.planner.specs.Choose.{chooseAnswer, SomePlan, NoPlan, LongTable}
 use Rattle.sheet.specs.declared.read.Reading.{Reading}
 use Rattle.sheet.specs.List.{sheetWeek}
 use Rattle.sheet.specs.Read.{readFault, WellWritten}
@@ -24,12 +24,12 @@ use Rattle.weekplan_c.specs.Call.{keepFault, callFault, minusOf, callAns
 use Rattle.weekplan_c.specs.Call.{LongBuffer}
 use Rattle.weekplan_c.proofs.Calling.{keep-sheet, keep-sizes, keep-faultless, call-keep, call-plan, long-buffer, call-answer}
 use Rattle.weekplan_c.proofs.Calling.{answer-small, picks-filled, picks-kept, recipes-written, recipes-kept}
-use Rattle.weekplan_c.proofs.Demands.{call-best, call-none}
+use Rattle.weekplan_c.proofs.Demands.{call-best, call-none, call-plans}
 use Rattle.weekplan_c.proofs.Signed.{as-positive}
 use Rattle.weekplan_c.proofs.weekplan_choose.Statement.{statement}
 use Rattle.weekplan_c.proofs.weekplan_choose.Tie as tie
 
--- what the call promises of its answer, and of the table and the buffer after it: the last two follow from the first three
+-- what the call promises of its answer, and of the table and the buffer after it: the last three follow from the first three
 module _ (sheet picks recipes : List ℕ) where
   abbrev Promised : List ℕ → List ℕ → ℤ → Type 0
   Promised picks′ recipes′ answer =
@@ -37,9 +37,12 @@ module _ (sheet picks recipes : List ℕ) where
       × ((picks′ ≡ picksAfter sheet picks (length recipes))
       × ((recipes′ ≡ recipesAfter sheet (length picks) recipes)
       × ((Planned answer → BestCall (sheetWeek sheet) recipes′ answer)
-      × ((answer ≡ minusOf 14)
+      × (((answer ≡ minusOf 14)
       ↔ (WellWritten sheet × LongTable (sheetWeek sheet) (length picks) × LongBuffer (sheetWeek sheet) (length recipes)
-      × NoPlan (sheetWeek sheet))))))
+      × NoPlan (sheetWeek sheet)))
+      × (Planned answer
+      ↔ (WellWritten sheet × LongTable (sheetWeek sheet) (length picks) × LongBuffer (sheetWeek sheet) (length recipes)
+      × SomePlan (sheetWeek sheet)))))))
 
   promised : {picks′ recipes′ : List ℕ} {answer : ℤ} → answer ≡ callAnswer sheet (length picks) (length recipes) →
       picks′ ≡ picksAfter sheet picks (length recipes) → recipes′ ≡ recipesAfter sheet (length picks) recipes →
@@ -52,7 +55,10 @@ module _ (sheet picks recipes : List ℕ) where
         buffer,
         (
           rw (answered, buffer) (call-best sheet picks recipes),
-          rw answered (call-none sheet (length picks) (length recipes)),
+          (
+            rw answered (call-none sheet (length picks) (length recipes)),
+            rw answered (call-plans sheet (length picks) (length recipes)),
+          ),
         ),
       ),
     ),
