@@ -56,7 +56,7 @@ lastVersion (some (k ∷ ks)) = k
 abbrev pub pick : List Job → ℕ → ℕ
 pick js x = lastVersion (best js x)
 
--- the same over the rule: above 0, k is the last job's version in the choice that demand 3 asks for; 0, there is none
+-- the same over the rule: above 0, k is the last job's version in the choice that demand 3 asks for; at 0 no choice meets the rule
 pub record PickSays (js : List Job) (x k : ℕ) : Type 0 where
   pub some : 1 ≤ k → (ks : List ℕ) × Chosen js x (k ∷ ks)
   pub none : k ≡ 0 → NoneMeets js x

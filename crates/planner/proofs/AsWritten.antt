@@ -16,11 +16,10 @@ use Rattle.jobs.specs.declared.model.Job.{Job}
 use Rattle.jobs.specs.Model.{noJob, versionOf, versionAt, minutesOf}
 use Rattle.jobs.specs.Choice.{total}
 use Rattle.edf.specs.Workload.{readyAt, minutesAt, asideAt}
-use Rattle.week.specs.declared.record.Recipe.{Recipe}
 use Rattle.week.specs.declared.record.Week.{Week}
 use Rattle.week.specs.Record.{maxRecipes, noRecipe, batchAt, batchOf, readyOf}
 use Rattle.judge.proofs.Sound.{Sound, Named}
-use Rattle.planner.specs.Job.{jobFrom, jobListOf, weekJobs, weekChoice}
+use Rattle.planner.specs.Job.{recipeVersion, jobFrom, jobListOf, weekJobs, weekChoice}
 use Rattle.planner.specs.Written.{chosenRecipe, chosenMinutes, chosenWorth}
 use Rattle.planner.proofs.Jobs.{version-at, job-at}
 
@@ -31,10 +30,6 @@ read-cost cost = by-zero (eqb cost 0) refl
     by-zero : (q : Bool) → eqb cost 0 ≡ q → cond (not q) cost 0 ≡ cost
     by-zero true e = sym (eqb-true cost 0 e)
     by-zero false e = refl
-
--- a recipe as a version
-abbrev pub recipeVersion : Recipe → Version
-recipeVersion r = record { read = not (eqb (r .cost) 0); cost = r .cost; worth = r .worth }
 
 module _ (w : Week) (sound : Sound w) where
   pub job-written : (i : ℕ) → 1 ≤ i → i ≤ w .count → atPosition noJob (jobListOf w .jobs) i ≡ jobFrom (w .opening) (batchOf w i)

@@ -9,14 +9,17 @@ use Rattle.jobs.specs.declared.model.Version.{Version}
 use Rattle.jobs.specs.declared.model.Job.{Job}
 use Rattle.jobs.specs.declared.model.JobList.{JobList}
 use Rattle.jobs.specs.Model.{jobsOf, chosen}
+use Rattle.week.specs.declared.record.Recipe.{Recipe}
 use Rattle.week.specs.declared.record.Batch.{Batch}
 use Rattle.week.specs.declared.record.Week.{Week}
 use Rattle.week.specs.Record.{maxBatches, maxRecipes, batchAt, recipeAt, readyOf}
 
--- the recipe of index k. 01: one that costs 0 "means that the batch is set aside"
+-- a recipe, and the recipe of index k. 01: one that costs 0 "means that the batch is set aside"
+abbrev pub recipeVersion : Recipe → Version
+recipeVersion r = record { read = not (eqb (r .cost) 0); cost = r .cost; worth = r .worth }
+
 abbrev pub versionFrom : Batch → ℕ → Version
-versionFrom b k =
-    record { read = not (eqb (recipeAt b k .cost) 0); cost = recipeAt b k .cost; worth = recipeAt b k .worth }
+versionFrom b k = recipeVersion (recipeAt b k)
 
 -- a batch, the week opening at t: its ready minute, its due minute, and a version for each place of its recipes
 abbrev pub jobFrom : ℕ → Batch → Job
