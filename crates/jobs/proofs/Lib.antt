@@ -1,6 +1,7 @@
 pub mod Rules
 pub mod ChoiceArrays
 pub mod Pass
+pub mod Lengths
 pub mod Totals
 pub mod FirstBest
 pub mod Programme

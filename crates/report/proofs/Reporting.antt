@@ -4,19 +4,20 @@ use native.Mathlib.Omega.{arith}
 use mathlib.Core.Path.{_≡_, refl, ap, _∙_}
 use mathlib.Core.Logic.{inl}
 use mathlib.Core.List.{List, flatten}
-use lib.Seq.{getD-take}
 use Rattle.arrays.proofs.Flattened.{flatten-one}
 use Rattle.week.specs.declared.record.Week.{Week}
 use Rattle.judge.specs.Fault.{WellFormed}
 use Rattle.week.proofs.Answering.{answers}
 use Rattle.judge.proofs.Sound.{sound}
-use Rattle.planner.specs.Choose.{maxPicks, chooseAnswer}
+use Rattle.planner.specs.Check.{checkAnswer}
+use Rattle.planner.specs.Choose.{maxPicks, planChoice, chooseAnswer}
 use Rattle.planner.proofs.Choosing.{fill-faultless, fills-faultless}
-use Rattle.planner.proofs.Demands.{choose-names}
+use Rattle.planner.proofs.Demands.{choose-names, choose-meets}
 use Rattle.sheet.specs.Read.{readAnswer}
 use Rattle.report.specs.Line.{refusalLine}
 use Rattle.report.specs.Report.{planLines, weekLines, reportLines, reportOf}
 use Rattle.report.specs.Contract.{Printable}
+use Rattle.report.proofs.Said.{minutes-long}
 
 -- of a list
 module _ (w : Week) where
@@ -32,13 +33,17 @@ module _ (w : Week) where
   pub planned-list : chooseAnswer w maxPicks .refusal .number ≡ 0 → WellFormed w
   planned-list z = fill-faultless w maxPicks .0 (fills-faultless w maxPicks .0 (inl z)) .0
 
-  pub printable : chooseAnswer w maxPicks .refusal .number ≡ 0 → Printable w (chooseAnswer w maxPicks)
+  pub printable : chooseAnswer w maxPicks .refusal .number ≡ 0 →
+      Printable w (checkAnswer w (planChoice w (chooseAnswer w maxPicks)))
   printable z =
-      let fine = sound w (planned-list z) in
-      let names = choose-names w maxPicks z in
+      let list = planned-list z in
       record {
-        most = fine .most;
-        each = λ i l. omega (arith, names .each i l, fine .few i l, getD-take (w .count) (chooseAnswer w maxPicks .choice) i 0 l);
+        most = sound w list .most;
+        forward = λ i low high.
+            omega (
+              arith,
+              minutes-long w (chooseAnswer w maxPicks) list (choose-names w maxPicks z) (choose-meets w maxPicks z) i low high,
+            );
       }
 
 -- of a sheet

@@ -1,5 +1,5 @@
 -- What the line of a batch says, by the desk's records, the rule and the run.
-use Prim.Native.Nat.{ℕ, zero, suc, _≤_}
+use Prim.Native.Nat.{ℕ, zero, suc, _+_, _≤_}
 use native.Mathlib.Omega.{arith}
 use mathlib.Core.Path.{_≡_, refl, sym, ap, _∙_}
 use mathlib.Core.Bool.{true}
@@ -7,9 +7,9 @@ use mathlib.Core.List.{List, [], _∷_}
 use lib.Seq.{getD-take}
 use borrow.Author.Tests.{eq-eqb}
 use Rattle.arrays.specs.Position.{atPosition}
-use Rattle.jobs.specs.Model.{noJob, versionOf, versionAt}
 use Rattle.jobs.specs.Rule.{meets}
-use Rattle.jobs.specs.Stretches.{stretchAt}
+use Rattle.jobs.specs.Stretches.{noStretch, stretchAt}
+use Rattle.jobs.proofs.Lengths.{stretch-long}
 use Rattle.edf.specs.declared.outcome.Outcome.{Outcome}
 use Rattle.edf.specs.declared.outcome.Outcome.the-variants.{SetAside, Finished, Unfinished}
 use Rattle.edf.specs.Run.{idle, changes, outcomeNumbers}
@@ -28,7 +28,7 @@ use Rattle.planner.specs.Run.{weekLog, setAside, logAnswer, runAnswer, outcomeS
 use Rattle.planner.proofs.Running.{log-enough, run-faultless, run-answers}
 use Rattle.planner.proofs.Station.{take-week}
 use Rattle.planner.proofs.Outcomes.{log-says, finished}
-use Rattle.planner.proofs.AsWritten.{version-cost}
+use Rattle.planner.proofs.AsWritten.{minutes-written}
 use Rattle.planner.proofs.Demands.{check-passes}
 use Rattle.report.specs.Report.{finishOf, batchAnswer, LineSays}
 
@@ -67,10 +67,14 @@ module _
     recipe-at zero low high = absurd (omega arith)
     recipe-at (suc i) low high = sym (getD-take (w .count) (plan .choice) i 0 (omega arith))
 
-    cost-at : (i : ℕ) → 1 ≤ i → i ≤ w .count → versionAt (jobListOf w) (plan .choice) i .cost ≡ chosenMinutes w choice i
-    cost-at i low high =
-        ap (λ (k : ℕ). versionOf (atPosition noJob (jobListOf w .jobs) i) k .cost) (recipe-at i low high)
-        ∙ version-cost w (sound w list) names i low high
+    -- the stretch that Check answers has the minutes of its recipe
+    pub minutes-long : (i : ℕ) → 1 ≤ i → i ≤ w .count →
+        let stretch = atPosition noStretch (checkAnswer w choice .stretches) i in
+        stretch .start + chosenMinutes w choice i ≡ stretch .end
+    unfolding passed
+    minutes-long i low high =
+        rw (checked, ← minutes-written w (sound w list) names i low high)
+        (stretch-long (jobListOf w) choice (w .closing) meeting i low high)
 
     -- what Run says of position i
     said : (i : ℕ) → 1 ≤ i → i ≤ w .count →
@@ -92,7 +96,8 @@ module _
     pub line-says : (i : ℕ) → 1 ≤ i → i ≤ w .count → LineSays w choice i (batchAnswer w plan (checkAnswer w choice) ran i)
     unfolding batchAnswer passed
     line-says i low high =
-        let cost = cost-at i low high in
+        let line = batchAnswer w plan (checkAnswer w choice) ran i in
+        let cost : line .cost ≡ chosenMinutes w choice i = omega (arith, minutes-long i low high) in
         let outcome = atPosition setAside (ran .batches) i .outcome in
         record {
           number = refl;

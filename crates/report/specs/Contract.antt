@@ -3,12 +3,13 @@ use Prim.Native.Nat.{ℕ, _+_, _*_, _≤_}
 use mathlib.Core.Path.{_≡_}
 use mathlib.Core.List.{List, _++_}
 use lib.ListN.{length, take, drop}
-use Rattle.arrays.specs.Each.{OneOfEach}
+use Rattle.arrays.specs.Position.{atPosition}
+use Rattle.jobs.specs.Stretches.{noStretch}
 use Rattle.week.specs.declared.record.Week.{Week}
-use Rattle.week.specs.Record.{maxBatches, maxRecipes}
-use Rattle.planner.specs.declared.choose.Plan.{Plan}
+use Rattle.week.specs.Record.{maxBatches}
+use Rattle.planner.specs.declared.check.Checked.{Checked}
 
--- the widest line of each kind, its line feed counted: "week 65535 65535"; "total 4294967295 changes 65535 idle 65535"; six numbers
+-- the widest line of each kind, its line feed counted: `week 65535 65535`; `total 4294967295 changes 65535 idle 65535`; six numbers
 -- of five digits
 abbrev pub weekWidth : ℕ
 weekWidth = 17
@@ -29,7 +30,8 @@ pub record Puts (before : List ℕ) (at : ℕ) (part after : List ℕ) (end : �
   pub room : end ≤ length before
   pub text : after ≡ take at before ++ (part ++ drop end before)
 
--- a list and a plan whose lines can be made: each batch has a place, and a recipe that is numbered as recipes are
-pub record Printable (w : Week) (plan : Plan) : Type 0 where
+-- a list and its stretches whose lines can be made: each batch has a place, and a stretch that starts no later than it ends
+pub record Printable (w : Week) (checked : Checked) : Type 0 where
   pub most : w .count ≤ maxBatches
-  pub each : OneOfEach (w .count) (λ i. maxRecipes) (plan .choice)
+  pub forward : (i : ℕ) → 1 ≤ i → i ≤ w .count →
+      atPosition noStretch (checked .stretches) i .start ≤ atPosition noStretch (checked .stretches) i .end

@@ -1,11 +1,10 @@
 -- The report of a sheet, line by line: document 01, "The sheet".
-use Prim.Native.Nat.{ℕ, suc, _≤_}
+use Prim.Native.Nat.{ℕ, suc, _-_, _≤_}
 use mathlib.Core.Path.{_≡_}
 use mathlib.Core.List.{List, [], _∷_, _++_, flatten}
 use lib.ListN.{length, drop}
 use Rattle.arrays.specs.Position.{atPosition}
 use Rattle.arrays.specs.Made.{tabulate}
-use Rattle.jobs.specs.Model.{versionAt}
 use Rattle.jobs.specs.Stretches.{noStretch, stretchAt}
 use Rattle.edf.specs.declared.outcome.Outcome.{Outcome}
 use Rattle.edf.specs.declared.outcome.Outcome.the-variants.{SetAside, Finished, Unfinished}
@@ -32,15 +31,17 @@ finishOf SetAside = 0
 finishOf (Finished minute) = minute
 finishOf (Unfinished left) = 0
 
--- what the line of position i says, by a plan, the stretches that Check answers of it and the outcomes that Run does
+-- what the line of position i says, by a plan, the stretches that Check answers of it and the outcomes that Run does. "cost as it
+-- counts in the rule": a stretch "starts its recipe's cost earlier" than it ends.
 unfoldable pub batchAnswer : Week → Plan → Checked → WeekRun → ℕ → BatchLine
 batchAnswer w plan checked ran i =
+    let stretch = atPosition noStretch (checked .stretches) i in
     record {
       number = batchOf w i .number;
       recipe = atPosition 0 (plan .choice) i;
-      cost = versionAt (jobListOf w) (plan .choice) i .cost;
-      start = atPosition noStretch (checked .stretches) i .start;
-      end = atPosition noStretch (checked .stretches) i .end;
+      cost = stretch .end - stretch .start;
+      start = stretch .start;
+      end = stretch .end;
       finish = finishOf (atPosition setAside (ran .batches) i .outcome);
     }
 

@@ -12,7 +12,7 @@ ghost use Rattle.report.specs.Decimal.{decimal};
 ghost use Rattle.report.specs.Line.{restOf, weekLine, totalLine, batchLine, refusalLine};
 ghost use Rattle.report.specs.Contract.{weekWidth, totalWidth, batchWidth, maxText, Puts};
 
-// The widest line of each kind, its line feed counted: "week 65535 65535", "total 4294967295 changes 65535 idle 65535" and six numbers
+// The widest line of each kind, its line feed counted: `week 65535 65535`, `total 4294967295 changes 65535 idle 65535` and six numbers
 // of five digits.
 const WEEK_WIDTH: usize = 17;
 

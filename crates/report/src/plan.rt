@@ -5,11 +5,9 @@ use crate::line::refusal_line;
 use crate::line::total_line;
 use crate::line::week_line;
 use edf::outcome::Outcome;
-use jobs::model::JobList;
 use planner::check::Checked;
 use planner::check::check;
 use planner::choose::Plan;
-use planner::job::jobs_of;
 use planner::own_memory::choose_week;
 use planner::own_memory::run_week;
 use planner::run::WeekRun;
@@ -18,7 +16,8 @@ ghost use mathlib.Core.Path.{_≡_};
 ghost use mathlib.Core.List.{flatten};
 ghost use Prim.Native.Nat.{suc, _+_, _*_, _≤_, _<_};
 ghost use lib.ListN.{length};
-ghost use Rattle.planner.specs.Job.{jobListOf};
+ghost use Rattle.planner.specs.Check.{checkAnswer};
+ghost use Rattle.planner.specs.Choose.{planChoice};
 ghost use Rattle.report.specs.Report.{finishOf, batchAnswer, batchLines, planLines, weekLines};
 ghost use Rattle.report.specs.Contract.{batchWidth, maxText, Puts, Printable};
 
@@ -34,28 +33,20 @@ fn finish_of(outcome: Outcome) -> u16
 }
 
 // What the line of the batch of index i says.
-fn batch_answer(
-    week: Week,
-    jobs: JobList,
-    plan: Plan,
-    checked: Checked,
-    ran: WeekRun,
-    i: usize,
-) -> BatchLine
-    requires { ⌜ (i < week .count) × Printable week plan × (jobs ≡ jobListOf week) ⌝ }
+fn batch_answer(week: Week, plan: Plan, checked: Checked, ran: WeekRun, i: usize) -> BatchLine
+    requires { ⌜ (i < week .count) × Printable week checked ⌝ }
     ensures { λ r. ⌜ r ≡ batchAnswer week plan checked ran (suc i) ⌝ }
 {
     let batch = week.batches[i];
-    let job = jobs.jobs[i];
     let recipe = plan.choice[i];
-    let version = job.version(recipe);
     let stretch = checked.stretches[i];
+    let cost = stretch.end - stretch.start;
     let run = ran.batches[i];
     let outcome = run.outcome;
     BatchLine {
         number: batch.number,
         recipe,
-        cost: version.cost,
+        cost,
         start: stretch.start,
         end: stretch.end,
         finish: finish_of(outcome),
@@ -71,14 +62,13 @@ fn batch_lines(
     checked: Checked,
     ran: WeekRun,
 ) -> usize
-    requires { ⌜ (at + week .count * batchWidth ≤ length (now text)) × Printable week plan ⌝ }
+    requires { ⌜ (at + week .count * batchWidth ≤ length (now text)) × Printable week checked ⌝ }
     ensures { λ end. ⌜ Puts (now (text .entry)) at (flatten (batchLines week plan checked ran (week .count))) (now (text .exit)) end ⌝ }
 {
-    let jobs = jobs_of(week);
     let n = week.count;
     let mut end = at;
     for i in 0..n {
-        let line = batch_answer(week, jobs, plan, checked, ran, i);
+        let line = batch_answer(week, plan, checked, ran, i);
         end = batch_line(&mut *text, end, line);
     }
     end
@@ -86,7 +76,7 @@ fn batch_lines(
 
 // All lines of a plan.
 fn plan_text(text: &mut [u8], week: Week, plan: Plan) -> usize
-    requires { ⌜ (maxText ≤ length (now text)) × Printable week plan ⌝ }
+    requires { ⌜ (maxText ≤ length (now text)) × Printable week (checkAnswer week (planChoice week plan)) ⌝ }
     ensures { λ end. ⌜ Puts (now (text .entry)) 0 (flatten (planLines week plan)) (now (text .exit)) end ⌝ }
 {
     let choice = plan.choice;

@@ -1,5 +1,7 @@
 -- `batch_answer` meets its contract: each part of the line, at index i, is that of position i + 1.
 use borrow.Author.Needs.{needs}
+use native.Mathlib.Omega.{arith}
+use Prim.Native.Nat.{suc}
 use Rattle.report.specs.Report.{batchAnswer}
 use Rattle.report.proofs.plan.batch_answer.Statement.{statement}
 use Rattle.report.proofs.plan.batch_answer.Tie as tie
@@ -10,25 +12,19 @@ mul-batch c = search needs
 element-copy-out-batch : tie.Need-element-copy-out-batch
 element-copy-out-batch c = search needs
 
-mul-job : tie.Need-mul-job
-mul-job c = search needs
-
-element-copy-out-job : tie.Need-element-copy-out-job
-element-copy-out-job c = search needs
-
 element-copy-out-recipe : tie.Need-element-copy-out-recipe
 element-copy-out-recipe c = search needs
-
-version-requires : tie.Need-version-requires
-version-requires c κs =
-    let given = c .before .before .before .pre in
-    given .1 .each (c .before .before .before .args .i) (given .0)
 
 mul-stretch : tie.Need-mul-stretch
 mul-stretch c = search needs
 
 element-copy-out-stretch : tie.Need-element-copy-out-stretch
 element-copy-out-stretch c = search needs
+
+sub-cost : tie.Need-sub-cost
+sub-cost c =
+    let start = c .before .before .before .before in
+    start .pre .1 .forward (suc (start .args .i)) (omega arith) (omega (arith, start .pre .0))
 
 mul-run : tie.Need-mul-run
 mul-run c = search needs
@@ -42,8 +38,7 @@ finish-of-requires c κs = search needs
 returns : tie.Need-returns
 unfolding batchAnswer
 returns c =
-    let read = c .before .before .before in
-    rw (read .version .ensures, read .before .before .before .before .pre .2, c .finish-of .ensures)
+    rw (c .finish-of .ensures)
 
 pub batch-answer-spec : {M : Type 1} → statement M
 batch-answer-spec =
@@ -51,12 +46,10 @@ batch-answer-spec =
     (tie.spec
     mul-batch
     element-copy-out-batch
-    mul-job
-    element-copy-out-job
     element-copy-out-recipe
-    version-requires
     mul-stretch
     element-copy-out-stretch
+    sub-cost
     mul-run
     element-copy-out-run
     finish-of-requires

@@ -13,29 +13,21 @@ use Rattle.report.proofs.plan.batch_lines.Statement.{statement}
 use Rattle.report.proofs.plan.batch_lines.Tie as tie
 
 abbrev Inv-loop : tie.InvT-loop
-Inv-loop text₀ at week plan checked ran jobs n end₀ i₀ text end i =
+Inv-loop text₀ at week plan checked ran n end₀ i₀ text end i =
     (i ≤ week .count)
     × (length text ≡ length text₀)
     × (end ≤ at + i * batchWidth)
     × Puts text₀ at (flatten (batchLines week plan checked ran i)) text end
 
 abbrev μ-loop : tie.MeasureT-loop
-μ-loop text₀ at week plan checked ran jobs n end₀ i₀ text end i = week .count - i
-
-abbrev start : tie.After-jobs-of Inv-loop μ-loop → tie.Start Inv-loop μ-loop
-start c = c .before .before
-
-jobs-of-requires : tie.Need-jobs-of-requires Inv-loop μ-loop
-jobs-of-requires c κs = search needs
+μ-loop text₀ at week plan checked ran n end₀ i₀ text end i = week .count - i
 
 loop-holds : tie.Need-loop-holds Inv-loop μ-loop
 unfolding flatten batchLines
 loop-holds c = (omega arith, refl, omega arith, puts-nothing _ _ (omega arith))
 
 batch-answer-requires : tie.Need-batch-answer-requires Inv-loop μ-loop
-batch-answer-requires c κs =
-    let made = c .before .before in
-    (search needs, start made .pre .1, made .jobs-of .ensures)
+batch-answer-requires c κs = (search needs, c .before .before .before .pre .1)
 
 batch-line-requires : tie.Need-batch-line-requires Inv-loop μ-loop
 batch-line-requires c κs = search needs
@@ -51,7 +43,7 @@ loop-again c =
     let done = c .before .before in
     let said = done .before .before in
     let at = said .before .before in
-    let args = start (at .before) .args in (
+    let args = at .before .before .args in (
       omega arith,
       puts-length (done .batch-line .ensures .0) ∙ at .loop .inv .1,
       omega (arith, at .loop .inv .2, done .batch-line .ensures .1),
@@ -65,7 +57,7 @@ same-length c = search needs
 returns : tie.Need-returns Inv-loop μ-loop
 returns c =
     let at = c .before in
-    let args = start (at .before) .args in
+    let args = at .before .before .args in
     let all : at .loop .i ≡ args .week .count = omega arith in
     rw all at (at .loop .inv .3)
 
@@ -75,7 +67,6 @@ batch-lines-spec =
     (tie.spec
     Inv-loop
     μ-loop
-    jobs-of-requires
     loop-holds
     batch-answer-requires
     batch-line-requires

@@ -92,7 +92,7 @@ batch-lines-requires c κs =
         puts-length (first .week-line .ensures .0),
         puts-length (second .total-line .ensures .0),
       ),
-      given .1,
+      rw (check-answer (ran first)) (given .1),
     )
 
 same-length : tie.Need-same-length
