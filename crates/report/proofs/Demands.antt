@@ -1,5 +1,5 @@
--- What the buyer asks of the desk's program, each sentence above its theorem. The contract of `report` says that it writes `reportOf`
--- on every sequence of bytes; the theorems here say that this is what the buyer asks for.
+-- What the buyer asks of the desk's program, each sentence above its theorem. The contract of `report` says that it answers `reportOf`,
+-- by value, on every sequence of bytes; the theorems here say that this is what the buyer asks for.
 use Prim.Native.Nat.{ℕ, _≤_}
 use native.Mathlib.Decide.{ℕ-discrete}
 use native.Mathlib.Omega.{arith}
@@ -59,8 +59,8 @@ module _ (sheet : List ℕ) where
       let none = number-of (read-refusal sheet) ∙ z in
       report-read sheet none ∙ ap weekLines (read-passes sheet none .1)
 
-  -- Demand 1: "Any list, in order or damaged, gets a plan or one numbered refusal with its place". 01: "A refusal writes one line
-  -- only, "refused" and its three numbers": those of the first refusal of the order, ..
+  -- Demand 1: "The answer to any list of batches, in order or damaged, is either a plan or one numbered refusal". 01: "A refusal writes
+  -- one line only, "refused" and its three numbers": those of the first refusal of the order, ..
   pub report-refuses : (reportFault sheet .number ≡ 0 → ⊥) → reportOf sheet ≡ refusalLine (reportFault sheet)
   report-refuses n =
       elim (ℕ-discrete (readFault sheet .number) 0) [
@@ -107,9 +107,9 @@ module _ (sheet : List ℕ) where
     pub report-prints : reportLines sheet ≡ planLines w plan
     report-prints = lines-read (report-passed none .0) ∙ week-planned w planned
 
-    -- .. of the plan that demand 3 asks for: "The chosen plan meets the rule and its total is the sum of its worths; every other
-    -- choice that meets the rule has a smaller total, or the same total and a higher recipe number at the last batch where the two
-    -- differ".
+    -- .. of the plan that demand 3 asks for: "Whatever list a plan is chosen for, the plan meets the rule, and the total answered is the
+    -- sum of its recipes' worths. Every other choice of one recipe a batch that meets the rule has a smaller total, or the same total
+    -- and a higher recipe number at the last batch where the two differ."
     pub report-best : BestPlan w plan
     report-best = choose-best w maxPicks planned
 
@@ -120,9 +120,10 @@ module _ (sheet : List ℕ) where
     report-counts =
         counts-said w plan (planned-list w planned) (choose-names w maxPicks planned) (choose-meets w maxPicks planned)
 
-    -- Each line says the desk's own number and minutes, the stretch that the rule gives its batch, and when Run finishes it. 01, "A batch
-    -- line is number, recipe, cost as it counts in the rule, start and end of stretch, finish (0 if set aside)"; and, from demand 3, by
-    -- the end of its stretch every batch that is read is finished.
+    -- Each line says the desk's own number and minutes, the stretch that the rule gives its batch, and when Run finishes it. 01: "A batch
+    -- line is number, recipe, cost as it counts in the rule, start and end of stretch, finish (0 if set aside)." Demand 3: "In the
+    -- station's run of the chosen plan, the minutes that each batch gets before its stretch ends number exactly its recipe's minutes",
+    -- so that every batch that is read is finished by the end of its stretch.
     pub report-says : (i : ℕ) → 1 ≤ i → i ≤ w .count →
         LineSays w choice i (batchAnswer w plan (checkAnswer w choice) (runAnswer w choice maxMinutes) i)
     report-says =

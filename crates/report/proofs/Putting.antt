@@ -3,10 +3,12 @@ use Prim.Native.Nat.{ℕ, _+_, _≤_}
 use native.Mathlib.Omega.{arith}
 use mathlib.Core.Path.{_≡_, sym, ap, ap₂, _∙_}
 use mathlib.Core.List.{List, [], _++_, append-assoc}
-use lib.ListN.{length, take, drop, length-append, length-drop, take-append-drop}
+use lib.ListN.{length, take, drop, replicate, length-append, length-drop, length-replicate, take-append-drop}
 use lib.Seq.{length-take-le, take-at, drop-at, drop-drop}
 use Rattle.io.specs.Counts.{Counts}
 use Rattle.io.proofs.Counting.{counts}
+use Rattle.arrays.specs.Made.{padded}
+use Rattle.arrays.proofs.Places.{drop-replicate}
 use Rattle.report.specs.Contract.{Puts}
 
 -- nothing
@@ -56,11 +58,13 @@ module _ {before part after : List ℕ} {at end : ℕ} (h : Puts before at part 
       later : drop stop after ≡ drop stop before
       later = split after ∙ ap (drop (length more)) kept ∙ sym (split before)
 
-  -- at the front of a text: what stands there, and how many of its bytes that are
-  pub puts-front : at ≡ 0 → after ≡ part ++ drop (length part) before
-  puts-front z =
-      let all : end ≡ length part = h .next ∙ ap (λ (n : ℕ). n + length part) z ∙ omega arith in
-      h .text ∙ rw (z, all)
-
+  -- it ends in the text
   pub puts-counts : Counts end after
   puts-counts = counts end after (omega (arith, h .room, puts-length))
+
+-- from the start of a text of zeros: the part, and 0 beyond it
+pub puts-padded : (m : ℕ) {part after : List ℕ} {end : ℕ} → Puts (replicate m 0) 0 part after end → after ≡ padded m 0 part
+puts-padded m {part} {end = end} h =
+    let all : end ≡ length part = omega (arith, h .next) in
+    let room : length part ≤ m = omega (arith, h .room, length-replicate {A = ℕ} m 0) in
+    h .text ∙ ap (λ (l : List ℕ). part ++ l) (rw all (drop-replicate (length part) m 0 room))

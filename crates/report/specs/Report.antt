@@ -2,9 +2,9 @@
 use Prim.Native.Nat.{ℕ, suc, _-_, _≤_}
 use mathlib.Core.Path.{_≡_}
 use mathlib.Core.List.{List, [], _∷_, _++_, flatten}
-use lib.ListN.{length, drop}
+use lib.ListN.{length}
 use Rattle.arrays.specs.Position.{atPosition}
-use Rattle.arrays.specs.Made.{tabulate}
+use Rattle.arrays.specs.Made.{tabulate, padded}
 use Rattle.jobs.specs.Stretches.{noStretch, stretchAt}
 use Rattle.edf.specs.declared.outcome.Outcome.{Outcome}
 use Rattle.edf.specs.declared.outcome.Outcome.the-variants.{SetAside, Finished, Unfinished}
@@ -22,8 +22,10 @@ use Rattle.planner.specs.Written.{chosenMinutes}
 use Rattle.planner.specs.Run.{setAside, weekLog, runAnswer, outcomeSaid}
 use Rattle.sheet.specs.List.{sheetWeek}
 use Rattle.sheet.specs.Read.{readFaults, readAnswer}
+use Rattle.report.specs.declared.ReportText.{ReportText}
 use Rattle.report.specs.declared.line.BatchLine.{BatchLine}
 use Rattle.report.specs.Line.{weekLine, totalLine, batchLine, refusalLine}
+use Rattle.report.specs.Contract.{maxText}
 
 -- "finish (0 if set aside)". No batch of a plan is unfinished: `report-says`.
 abbrev pub finishOf : Outcome → ℕ
@@ -76,9 +78,9 @@ reportLines sheet =
 abbrev pub reportOf : List ℕ → List ℕ
 reportOf sheet = flatten (reportLines sheet)
 
--- what a lent text holds then: the report, and after it what stood there
-abbrev pub textAfter : List ℕ → List ℕ → List ℕ
-textAfter sheet text = reportOf sheet ++ drop (length (reportOf sheet)) text
+-- by value, how many bytes that are beside it. "Places of an answer beyond n hold 0"
+abbrev pub reportAnswer : List ℕ → ReportText
+reportAnswer sheet = record { bytes = padded maxText 0 (reportOf sheet); len = length (reportOf sheet) }
 
 -- what the line of position i says: the desk's own number and minutes, the stretch that the rule gives it, and the finish that Run
 -- answers, which is in time. A batch that is set aside has 0 there.

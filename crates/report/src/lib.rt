@@ -3,21 +3,27 @@ mod line;
 mod plan;
 mod text;
 
-pub use crate::line::MAX_TEXT;
+use crate::line::MAX_TEXT;
 use crate::line::refusal_line;
 use crate::plan::week_text;
 use sheet::read::read;
 ghost use mathlib.Core.Path.{_≡_};
+ghost use Prim.Native.Nat.{_≤_};
 ghost use lib.ListN.{length};
 ghost use Rattle.io.specs.Counts.{Counts};
-ghost use Rattle.report.specs.Report.{reportOf, textAfter};
+ghost use Rattle.report.specs.Report.{reportOf, reportAnswer};
+ghost use Rattle.report.specs.Contract.{maxText, Puts};
 
-// Document 01, "The sheet": "It writes the whole of". The answer, how many bytes the report has, and every byte of the text at exit, on
-// every input. Then what a caller asks that goes on to write the report: the answer counts bytes of the text.
-pub fn report(sheet: &[u8], text: &mut [u8; MAX_TEXT]) -> usize
-    ensures answer { λ r. ⌜ r ≡ length (reportOf (now (sheet .entry))) ⌝ }
-    ensures text { λ _. ⌜ now (text .exit) ≡ textAfter (now (sheet .entry)) (now (text .entry)) ⌝ }
-    ensures fits { λ r. ⌜ Counts r (now (text .exit)) ⌝ }
+// A report: its text, and how many bytes of the array that is.
+pub struct ReportText {
+    pub bytes: [u8; MAX_TEXT],
+    pub len: usize,
+}
+
+// All lines of a sheet: those of its list, or the refusal.
+fn sheet_text(text: &mut [u8], sheet: &[u8]) -> usize
+    requires { ⌜ maxText ≤ length (now text) ⌝ }
+    ensures { λ end. ⌜ Puts (now (text .entry)) 0 (reportOf (now (sheet .entry))) (now (text .exit)) end ⌝ }
 {
     let reading = read(sheet);
     let fault = reading.refusal;
@@ -26,4 +32,15 @@ pub fn report(sheet: &[u8], text: &mut [u8; MAX_TEXT]) -> usize
     }
     let week = reading.week;
     week_text(text, week)
+}
+
+// Document 01, "The sheet": "It writes the whole of". The answer on every input; demand 1, "A refused call alters no memory it was
+// lent": it is lent none to write. Then what a caller asks that goes on to write the report: its length counts bytes of the array.
+pub fn report(sheet: &[u8]) -> ReportText
+    ensures answer { λ r. ⌜ r ≡ reportAnswer (now (sheet .entry)) ⌝ }
+    ensures fits { λ r. ⌜ Counts (r .len) (r .bytes) ⌝ }
+{
+    let mut bytes = [0; MAX_TEXT];
+    let len = sheet_text(&mut bytes, sheet);
+    ReportText { bytes, len }
 }

@@ -21,7 +21,7 @@ const TOTAL_WIDTH: usize = 42;
 const BATCH_WIDTH: usize = 36;
 
 // The longest text.
-pub const MAX_TEXT: usize = WEEK_WIDTH + TOTAL_WIDTH + Week::MAX_BATCHES * BATCH_WIDTH;
+pub(crate) const MAX_TEXT: usize = WEEK_WIDTH + TOTAL_WIDTH + Week::MAX_BATCHES * BATCH_WIDTH;
 
 // What the line of a batch says. Document 01: "A batch line is number, recipe, cost as it counts in the rule, start and end of
 // stretch, finish (0 if set aside)."
@@ -39,8 +39,8 @@ fn rest(text: &mut [u8], at: usize, numbers: &[u64]) -> usize
     requires { ⌜ at + length (restOf (map decimal (now numbers))) ≤ length (now text) ⌝ }
     ensures { λ end. ⌜ Puts (now (text .entry)) at (restOf (map decimal (now (numbers .entry)))) (now (text .exit)) end ⌝ }
 {
-    let end = put_numbers(&mut *text, at, numbers);
-    put(text, end, b"\n")
+    let last = put_numbers(&mut *text, at, numbers);
+    put(text, last, b"\n")
 }
 
 // The first line. Document 01: "Line 1 is t and c."

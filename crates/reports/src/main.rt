@@ -2,7 +2,6 @@
 // bounds and arrivals decide, the limits, and each refusal that a sheet can meet. stdout has each text as document 01 and
 // docs/DECISIONS.md say it.
 use libc::STDOUT_FILENO;
-use report::MAX_TEXT;
 use report::report;
 use sheet::read::MAX_BYTES;
 
@@ -10,9 +9,10 @@ fn write_report(fd: i32) {
     // One byte more than the longest sheet that is read, so that a longer one is told from it.
     let mut sheet = [0; MAX_BYTES + 1];
     let len = io::read_full(fd, &mut sheet);
-    let mut text = [0; MAX_TEXT];
-    let end = report(&sheet[0..len], &mut text);
-    io::write_all(STDOUT_FILENO, &text[0..end]);
+    let text = report(&sheet[0..len]);
+    let bytes = text.bytes;
+    let end = text.len;
+    io::write_all(STDOUT_FILENO, &bytes[0..end]);
 }
 
 fn show(name: &[u8]) {

@@ -4,7 +4,6 @@ mod input;
 use crate::input::read_sheet;
 use libc::STDERR_FILENO;
 use libc::STDOUT_FILENO;
-use report::MAX_TEXT;
 use report::report;
 use sheet::read::MAX_BYTES;
 
@@ -17,7 +16,8 @@ fn main() {
         return;
     }
     let len = input.len;
-    let mut text = [0; MAX_TEXT];
-    let end = report(&sheet[0..len], &mut text);
-    io::write_all(STDOUT_FILENO, &text[0..end]);
+    let text = report(&sheet[0..len]);
+    let bytes = text.bytes;
+    let end = text.len;
+    io::write_all(STDOUT_FILENO, &bytes[0..end]);
 }
