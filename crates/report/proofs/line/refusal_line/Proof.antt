@@ -23,6 +23,13 @@ put-requires c κs = search needs
 slice-aggregate-rest : tie.Need-slice-aggregate-rest
 slice-aggregate-rest c = search needs
 
+returns : tie.Need-returns
+unfolding refusalLine
+returns c =
+    let ended = c .before .before in
+    let begun = ended .before .before .before .before .before in
+    puts-then (begun .put .ensures) (ended .rest .ensures)
+
 rest-requires : tie.Need-rest-requires
 rest-requires c κs =
     let begun = c .before .before .before .before in
@@ -32,13 +39,6 @@ rest-requires c κs =
 
 same-length : tie.Need-same-length
 same-length c = search needs
-
-returns : tie.Need-returns
-unfolding refusalLine
-returns c =
-    let ended = c .before .before in
-    let begun = ended .before .before .before .before .before in
-    puts-then (begun .put .ensures) (ended .rest .ensures)
 
 pub refusal-line-spec : {M : Type 1} → statement M
 refusal-line-spec =
