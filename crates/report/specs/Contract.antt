@@ -1,5 +1,5 @@
 -- What the report's functions ask and answer.
-use Prim.Native.Nat.{ℕ, _+_, _*_, _≤_}
+use Prim.Native.Nat.{ℕ, _+_, _≤_}
 use mathlib.Core.Path.{_≡_}
 use mathlib.Core.List.{List, _++_}
 use lib.ListN.{length, take, drop}
@@ -8,21 +8,6 @@ use Rattle.jobs.specs.Stretches.{noStretch}
 use Rattle.week.specs.declared.record.Week.{Week}
 use Rattle.week.specs.Record.{maxBatches}
 use Rattle.planner.specs.declared.check.Checked.{Checked}
-
--- the widest line of each kind, its line feed counted: `week 65535 65535`; `total 4294967295 changes 65535 idle 65535`; six numbers
--- of five digits
-abbrev pub weekWidth : ℕ
-weekWidth = 17
-
-abbrev pub totalWidth : ℕ
-totalWidth = 42
-
-abbrev pub batchWidth : ℕ
-batchWidth = 36
-
--- the longest text
-abbrev pub maxText : ℕ
-maxText = weekWidth + totalWidth + maxBatches * batchWidth
 
 -- a part is put into a text at a place, the next part has its place at `end`, and all else is kept
 pub record Puts (before : List ℕ) (at : ℕ) (part after : List ℕ) (end : ℕ) : Type 0 where

@@ -1,8 +1,9 @@
 -- The lines of a report: document 01, "The sheet".
-use Prim.Native.Nat.{ℕ}
+use Prim.Native.Nat.{ℕ, _+_, _*_}
 use mathlib.Core.List.{List, [], _∷_, _++_, map}
 use Rattle.week.specs.declared.record.Week.{Week}
 use Rattle.week.specs.declared.refusal.Refusal.{Refusal}
+use Rattle.week.specs.Record.{maxBatches}
 use Rattle.sheet.specs.Text.{bytes}
 use Rattle.sheet.specs.Line.{lineFeed}
 use Rattle.report.specs.declared.line.BatchLine.{BatchLine}
@@ -39,3 +40,18 @@ batchLine b = lineOf (decimal (b .number)) (map decimal (b .recipe ∷ b .cost �
 -- "refused 17 1 0": "A refusal writes one line only, "refused" and its three numbers"
 unfoldable pub refusalLine : Refusal → List ℕ
 refusalLine r = lineOf (bytes "refused") (map decimal (r .number ∷ r .place ∷ r .recipe ∷ []))
+
+-- the widest line of each kind, its line feed counted: `week 65535 65535`; `total 4294967295 changes 65535 idle 65535`; six numbers
+-- of five digits
+abbrev pub weekWidth : ℕ
+weekWidth = 17
+
+abbrev pub totalWidth : ℕ
+totalWidth = 42
+
+abbrev pub batchWidth : ℕ
+batchWidth = 36
+
+-- the longest text
+abbrev pub maxText : ℕ
+maxText = weekWidth + totalWidth + maxBatches * batchWidth

@@ -24,8 +24,7 @@ use Rattle.sheet.specs.List.{sheetWeek}
 use Rattle.sheet.specs.Read.{readFaults, readAnswer}
 use Rattle.report.specs.declared.ReportText.{ReportText}
 use Rattle.report.specs.declared.line.BatchLine.{BatchLine}
-use Rattle.report.specs.Line.{weekLine, totalLine, batchLine, refusalLine}
-use Rattle.report.specs.Contract.{maxText}
+use Rattle.report.specs.Line.{weekLine, totalLine, batchLine, refusalLine, maxText}
 
 -- "finish (0 if set aside)". No batch of a plan is unfinished: `report-says`.
 abbrev pub finishOf : Outcome → ℕ
@@ -78,7 +77,7 @@ reportLines sheet =
 abbrev pub reportOf : List ℕ → List ℕ
 reportOf sheet = flatten (reportLines sheet)
 
--- by value, how many bytes that are beside it. "Places of an answer beyond n hold 0"
+-- by value: the text, with 0 beyond it ("Places of an answer beyond n hold 0"), and its length
 abbrev pub reportAnswer : List ℕ → ReportText
 reportAnswer sheet = record { bytes = padded maxText 0 (reportOf sheet); len = length (reportOf sheet) }
 

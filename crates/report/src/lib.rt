@@ -11,10 +11,11 @@ ghost use mathlib.Core.Path.{_≡_};
 ghost use Prim.Native.Nat.{_≤_};
 ghost use lib.ListN.{length};
 ghost use Rattle.io.specs.Counts.{Counts};
+ghost use Rattle.report.specs.Line.{maxText};
 ghost use Rattle.report.specs.Report.{reportOf, reportAnswer};
-ghost use Rattle.report.specs.Contract.{maxText, Puts};
+ghost use Rattle.report.specs.Contract.{Puts};
 
-// A report: its text, and how many bytes of the array that is.
+// A report: its text, in an array that is 0 beyond it, and how many bytes the text has.
 pub struct ReportText {
     pub bytes: [u8; MAX_TEXT],
     pub len: usize,

@@ -9,8 +9,8 @@ ghost use Prim.Native.Nat.{_+_, _≤_};
 ghost use mathlib.Core.List.{map};
 ghost use lib.ListN.{length};
 ghost use Rattle.report.specs.Decimal.{decimal};
-ghost use Rattle.report.specs.Line.{restOf, weekLine, totalLine, batchLine, refusalLine};
-ghost use Rattle.report.specs.Contract.{weekWidth, totalWidth, batchWidth, maxText, Puts};
+ghost use Rattle.report.specs.Line.{restOf, weekLine, totalLine, batchLine, refusalLine, weekWidth, totalWidth, batchWidth, maxText};
+ghost use Rattle.report.specs.Contract.{Puts};
 
 // The widest line of each kind, its line feed counted: `week 65535 65535`, `total 4294967295 changes 65535 idle 65535` and six numbers
 // of five digits.

@@ -18,8 +18,9 @@ ghost use Prim.Native.Nat.{suc, _+_, _*_, _≤_, _<_};
 ghost use lib.ListN.{length};
 ghost use Rattle.planner.specs.Check.{checkAnswer};
 ghost use Rattle.planner.specs.Choose.{planChoice};
+ghost use Rattle.report.specs.Line.{batchWidth, maxText};
 ghost use Rattle.report.specs.Report.{finishOf, batchAnswer, batchLines, planLines, weekLines};
-ghost use Rattle.report.specs.Contract.{batchWidth, maxText, Puts, Printable};
+ghost use Rattle.report.specs.Contract.{Puts, Printable};
 
 // Document 01: "finish (0 if set aside)". No batch of a plan is unfinished.
 fn finish_of(outcome: Outcome) -> u16

@@ -5,8 +5,9 @@ use Prim.Native.Nat.{_+_, _-_, _*_, _≤_}
 use mathlib.Core.Path.{_≡_, refl, _∙_}
 use mathlib.Core.List.{flatten}
 use lib.ListN.{length}
+use Rattle.report.specs.Line.{batchWidth}
 use Rattle.report.specs.Report.{batchLines}
-use Rattle.report.specs.Contract.{batchWidth, Puts}
+use Rattle.report.specs.Contract.{Puts}
 use Rattle.report.proofs.Putting.{puts-nothing, puts-length, puts-then}
 use Rattle.report.proofs.BatchLines.{lines-more}
 use Rattle.report.proofs.plan.batch_lines.Statement.{statement}
