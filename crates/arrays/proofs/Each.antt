@@ -4,14 +4,10 @@ use native.Mathlib.Numerals.{add-one}
 use native.Mathlib.Decide.{ℕ-discrete}
 use native.Mathlib.Omega.{arith}
 use mathlib.Core.Path.{_≡_, refl, sym, ap, ap₂, _∙_}
-use mathlib.Core.Logic.{_↔_}
-use mathlib.Core.Bool.{Bool, true, false, _||_}
+use mathlib.Core.Logic.{_↔_, ⊎-elim}
+use mathlib.Core.Bool.{Bool, true, false, _||_, false≢true}
 use Rattle.arrays.specs.Each.{someBelow}
-use Rattle.arrays.proofs.Tests.{or-fails}
-
-or-true : (p : Bool) → (p || true) ≡ true
-or-true true = refl
-or-true false = refl
+use Rattle.arrays.proofs.Tests.{either-holds, or-fails, or-true}
 
 module _ (p : ℕ → Bool) where
   pub none-below : (n : ℕ) → (someBelow p n ≡ false) ↔ ((i : ℕ) → i < n → p i ≡ false)
@@ -23,6 +19,14 @@ module _ (p : ℕ → Bool) where
         elim (ℕ-discrete i n) [ yes e ↦ ap p e ∙ both .1 | no other ↦ none-below n .0 (both .0) i (omega arith) ],
     λ each. ap₂ _||_ (none-below n .1 (λ i l. each i (omega arith))) (each n (omega arith)),
   )
+
+  -- where it holds of some, it holds at an index
+  pub below-some : (n : ℕ) → someBelow p n ≡ true → (i : ℕ) × (i < n) × (p i ≡ true)
+  unfolding someBelow
+  below-some zero h = absurd (false≢true h)
+  below-some (suc n) h =
+      ⊎-elim (λ before. let at = below-some n before in (at .0, omega (arith, at .1), at .2)) (λ here. (n, omega arith, here))
+      (either-holds (someBelow p n) (p n) (λ e. e, λ e. e) (λ e. e, λ e. e) .0 h)
 
   pub none-more : (n : ℕ) → someBelow p n ≡ false → p n ≡ false → someBelow p (n + 1) ≡ false
   unfolding someBelow

@@ -1,11 +1,36 @@
--- Tests that do not hold: what each then says, both ways.
+-- Tests: what each says where it holds and where it does not, both ways.
 use Prim.Native.Nat.{ℕ, _≤_, _<_}
 use native.Mathlib.Omega.{arith}
 use mathlib.Core.Path.{_≡_, refl, sym}
-use mathlib.Core.Logic.{_↔_}
-use mathlib.Core.Bool.{Bool, true, false, _||_, _&&_, true≢false}
+use mathlib.Core.Logic.{_↔_, _⊎_, inl, inr, ⊎-elim}
+use mathlib.Core.Bool.{Bool, true, false, _||_, _&&_, not, true≢false, false≢true}
 use lib.Dec.{ltb, leb, eqb}
-use borrow.Author.Tests.{ltb-false, le-ltb, leb-false, lt-leb, eqb-false, ne-eqb}
+use borrow.Author.Tests.{ltb-true, lt-ltb, ltb-false, le-ltb, leb-true, le-leb, leb-false, lt-leb, eqb-true, eq-eqb, eqb-false, ne-eqb}
+
+pub lt-holds : (a b : ℕ) → (ltb a b ≡ true) ↔ (a < b)
+lt-holds a b = (ltb-true a b, lt-ltb a b)
+
+pub le-holds : (a b : ℕ) → (leb a b ≡ true) ↔ (a ≤ b)
+le-holds a b = (leb-true a b, le-leb a b)
+
+pub same-holds : (a b : ℕ) → (eqb a b ≡ true) ↔ (a ≡ b)
+same-holds a b = (eqb-true a b, eq-eqb a b)
+
+pub not-holds : (p : Bool) {P : Type 0} → (p ≡ false) ↔ P → (not p ≡ true) ↔ P
+not-holds true e = (λ h. absurd (false≢true h), λ h. absurd (true≢false (e .1 h)))
+not-holds false e = (λ _. e .0 refl, λ _. refl)
+
+pub either-holds : (p q : Bool) {P Q : Type 0} → (p ≡ true) ↔ P → (q ≡ true) ↔ Q → ((p || q) ≡ true) ↔ (P ⊎ Q)
+either-holds true q e f = (λ _. inl (e .0 refl), λ _. refl)
+either-holds false q e f = (λ h. inr (f .0 h), ⊎-elim (λ h. absurd (false≢true (e .1 h))) (f .1))
+
+pub or-true : (p : Bool) → (p || true) ≡ true
+or-true true = refl
+or-true false = refl
+
+pub both-hold : (p q : Bool) {P Q : Type 0} → (p ≡ true) ↔ P → (q ≡ true) ↔ Q → ((p && q) ≡ true) ↔ (P × Q)
+both-hold true q e f = (λ h. (e .0 refl, f .0 h), λ h. f .1 (h .1))
+both-hold false q e f = (λ h. absurd (false≢true h), λ h. e .1 (h .0))
 
 pub lt-fails : (a b : ℕ) → (ltb a b ≡ false) ↔ (b ≤ a)
 lt-fails a b = (ltb-false a b, le-ltb a b)

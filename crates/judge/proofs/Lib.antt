@@ -3,3 +3,4 @@ pub mod WellFormed
 pub mod DueOrder
 pub mod Sound
 pub mod ListNumbers
+pub mod Holding

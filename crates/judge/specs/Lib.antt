@@ -1,3 +1,4 @@
 pub mod BatchFault
 pub mod Fault
 pub mod Orderly
+pub mod Holds

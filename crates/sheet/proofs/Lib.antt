@@ -13,4 +13,5 @@ pub mod Beyond
 pub mod Reading
 pub mod WellWritten
 pub mod SheetNumbers
+pub mod Holding
 pub mod Demands

@@ -5,5 +5,6 @@ pub mod Frame
 pub mod Fault
 pub mod List
 pub mod Read
+pub mod Holds
 pub mod Contract
 pub mod Examples

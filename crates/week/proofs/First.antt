@@ -7,7 +7,7 @@ use native.Mathlib.Decide.{ℕ-discrete}
 use native.Mathlib.Omega.{arith}
 use mathlib.Core.Path.{_≡_, refl, ap, sym, _∙_}
 use mathlib.Core.Bool.{Bool, true, false}
-use mathlib.Core.List.{List, [], _∷_, _++_}
+use mathlib.Core.List.{List, [], _∷_, _++_, map}
 use lib.Dec.{eqb}
 use borrow.Author.Tests.{eqb-false, eq-eqb, ne-eqb}
 use Rattle.week.specs.declared.refusal.Refusal.{Refusal}
@@ -31,11 +31,11 @@ Proper r = r .number ≡ 0 → r ≡ accepted
 
 -- ---- of two
 module _ (a b : Refusal) where
-  or-first : (a .number ≡ 0 → ⊥) → orElse a b ≡ a
+  pub or-first : (a .number ≡ 0 → ⊥) → orElse a b ≡ a
   unfolding orElse
   or-first h = simp (ne-eqb _ _ h)
 
-  or-second : a .number ≡ 0 → orElse a b ≡ b
+  pub or-second : a .number ≡ 0 → orElse a b ≡ b
   unfolding orElse
   or-second h = simp (eq-eqb _ _ h)
 
@@ -90,7 +90,26 @@ module _ (place : ℕ) (r : Refusal) where
       elim (ℕ-discrete (r .number) 0)
       [ yes z ↦ number-of (place-passed z) ∙ sym z | no n ↦ number-of (place-refused n) ]
 
+place-or : (place : ℕ) (a b : Refusal) → atPlace place (orElse a b) ≡ orElse (atPlace place a) (atPlace place b)
+place-or place a b =
+    elim (ℕ-discrete (a .number) 0) [
+      | yes z ↦ ap (atPlace place) (or-second a b z) ∙ sym (or-second _ _ (place-number place a ∙ z))
+      | no n ↦ ap (atPlace place) (or-first a b n) ∙ sym (or-first _ _ (λ z. n (sym (place-number place a) ∙ z)))
+    ]
+
+-- of a condition that names no place
+pub place-if : (number place recipe : ℕ) → eqb number 0 ≡ false → (holds : Bool) →
+    atPlace place (refusedIf number 0 recipe holds) ≡ refusedIf number place recipe holds
+unfolding refusedIf
+place-if number place recipe some true = place-refused place (refused number 0 recipe) (eqb-false number 0 some)
+place-if number place recipe some false = place-passed place accepted refl
+
 -- ---- of a list
+pub place-each : (place : ℕ) (rs : List Refusal) → atPlace place (firstOf rs) ≡ firstOf (map (atPlace place) rs)
+unfolding firstOf
+place-each place [] = place-passed place accepted refl
+place-each place (r ∷ rs) = place-or place r (firstOf rs) ∙ ap (orElse (atPlace place r)) (place-each place rs)
+
 module _ (r : Refusal) (rs : List Refusal) where
   pub firstOf-here : (r .number ≡ 0 → ⊥) → firstOf (r ∷ rs) ≡ r
   unfolding firstOf
@@ -135,7 +154,18 @@ pub append-last : (xs : List Refusal) (r : Refusal) → Proper r → firstOf xs 
 append-last xs r proper z = append-rest xs (r ∷ []) z ∙ firstOf-one r proper
 
 -- ---- of f i, f (i + 1), ..
+pub place-first : (place : ℕ) (f : ℕ → Refusal) (i m : ℕ) → atPlace place (first f i m) ≡ first (λ k. atPlace place (f k)) i m
+unfolding first
+place-first place f i zero = place-passed place accepted refl
+place-first place f i (suc m) =
+    place-or place (f i) (first f (suc i) m) ∙ ap (orElse (atPlace place (f i))) (place-first place f (suc i) m)
+
 module _ (f : ℕ → Refusal) where
+  pub first-up : (i m : ℕ) → first f (suc i) m ≡ first (λ k. f (suc k)) i m
+  unfolding first
+  first-up i zero = refl
+  first-up i (suc m) = ap (orElse (f (suc i))) (first-up (suc i) m)
+
   pub first-proper : (i m : ℕ) → Proper (first f i m)
   unfolding first
   first-proper i zero h = refl

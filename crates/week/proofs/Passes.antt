@@ -10,9 +10,9 @@ use borrow.Author.Tests.{lt-ltb}
 use Rattle.arrays.specs.Each.{All}
 use Rattle.arrays.proofs.Tests.{lt-fails}
 use Rattle.week.specs.declared.refusal.Refusal.{Refusal}
-use Rattle.week.specs.Refusal.{accepted, refused, refusedIf, orElse, firstOf, first, shortFault}
+use Rattle.week.specs.Refusal.{accepted, refused, refusedIf, firstOf, first, shortFault}
 use Rattle.week.proofs.First.{Proper, number-of, refusedIf-none, refusedIf-true, refusedIf-false, refusedIf-proper}
-use Rattle.week.proofs.First.{firstOf-none, firstOf-later, first-none, none-first}
+use Rattle.week.proofs.First.{firstOf-none, firstOf-later, first-none, first-up, none-first}
 
 -- nothing is refused
 abbrev pub Passes : Refusal → Type 0
@@ -57,18 +57,13 @@ module _ (f : ℕ → Refusal) where
   pub first-passes : (n : ℕ) → Passes (first f 0 n) ↔ ((i : ℕ) → i < n → Passes (f i))
   first-passes n = (first-none f n, λ each. number-of (none-first f n each))
 
-  first-up : (i m : ℕ) → first f (suc i) m ≡ first (λ k. f (suc k)) i m
-  unfolding first
-  first-up i zero = refl
-  first-up i (suc m) = ap (orElse (f (suc i))) (first-up (suc i) m)
-
   -- from the second on
   pub rest-passes : (n : ℕ) → Passes (first f 1 (n - 1)) ↔ ((k : ℕ) → 1 ≤ k → k < n → Passes (f k))
-  rest-passes n = (to, λ each. number-of (first-up 0 (n - 1) ∙ none-first _ (n - 1) (λ i l. each (suc i) (omega arith) (omega arith))))
+  rest-passes n = (to, λ each. number-of (first-up f 0 (n - 1) ∙ none-first _ (n - 1) (λ i l. each (suc i) (omega arith) (omega arith))))
     where
       to : Passes (first f 1 (n - 1)) → (k : ℕ) → 1 ≤ k → k < n → Passes (f k)
       to h zero low high = absurd (omega arith)
-      to h (suc k) low high = first-none (λ k. f (suc k)) (n - 1) (rw first-up at h) k (omega arith)
+      to h (suc k) low high = first-none (λ k. f (suc k)) (n - 1) (rw (first-up f) at h) k (omega arith)
 
 -- of a lent slice
 pub short-refuses : (number : ℕ) {needed size : ℕ} → size < needed → shortFault number needed size ≡ refused number 0 0

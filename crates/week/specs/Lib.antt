@@ -1,3 +1,4 @@
 pub mod Record
 pub mod Order
 pub mod Refusal
+pub mod RefusalOrder
