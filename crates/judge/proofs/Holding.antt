@@ -187,6 +187,9 @@ module _ (w : Week) where
         or-holds (listFault w) _ list-holds (λ _. one-holds _ choice-holds)
         (stage-ahead {σ = batchStage} (λ r h. list-stages r h .1) (λ r h. omega (arith, choice-stage r h)))
 
+    pub handed-stages : (r : Refusal) → (ListHolds w or ChoiceHolds w choice) r → stage (r .number) ≤ choiceStage
+    handed-stages r = ⊎-elim (λ h. omega (arith, list-stages r h .1)) (λ h. omega (arith, choice-stage r h))
+
 -- what such a refusal names, whatever the lines of a sheet
 module _ (w : Week) (lines : ℕ) where
   pub list-naming : (r : Refusal) → ListHolds w r → Naming listNumbers (w .count) lines r

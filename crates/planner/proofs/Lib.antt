@@ -7,5 +7,6 @@ pub mod ReadOff
 pub mod Running
 pub mod AsWritten
 pub mod WrittenRule
+pub mod Holding
 pub mod Station
 pub mod Outcomes

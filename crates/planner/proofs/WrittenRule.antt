@@ -1,27 +1,29 @@
 -- The backward rule asks of a week's jobs what it asks of the desk's records, and gives them the same stretches.
-use Prim.Native.Nat.{ℕ, zero, suc, _+_, _-_, _≤_, min}
+use Prim.Native.Nat.{ℕ, zero, suc, _+_, _-_, _≤_, _<_, min}
 use native.Mathlib.Decide.{ℕ-discrete}
 use native.Mathlib.Omega.{arith}
 use mathlib.Core.Path.{_≡_, refl, ap, ap₂, _∙_}
-use mathlib.Core.Logic.{_↔_}
-use mathlib.Core.Bool.{Bool, true, false, cond, not, and-eq-true-iff}
+use mathlib.Core.Logic.{_↔_, Iff·trans}
+use mathlib.Core.Bool.{Bool, true, false, cond, not, false≢true}
 use mathlib.Core.List.{List}
 use lib.Dec.{leb, eqb}
 use borrow.Author.Tests.{leb-true, le-leb, eqb-true}
 use Rattle.arrays.specs.Position.{atPosition, backward}
+use Rattle.arrays.proofs.Places.{length-backward}
 use Rattle.arrays.proofs.Tests.{zero-fails}
 use Rattle.jobs.specs.declared.model.Version.{Version}
 use Rattle.jobs.specs.declared.model.Job.{Job}
 use Rattle.jobs.specs.declared.rule.Stretch.{Stretch}
 use Rattle.jobs.specs.Model.{noJob, versionAt}
-use Rattle.jobs.specs.Rule.{stretchOf, fits, nextBound, meets, stretches}
+use Rattle.jobs.specs.Rule.{stretchOf, fits, nextBound, meets, failing, stretches}
 use Rattle.jobs.specs.Stretches.{noStretch, stretchesOf, stretchAt}
+use Rattle.jobs.proofs.Rules.{meets-failing}
 use Rattle.jobs.proofs.Pass.{placed-stretches}
 use Rattle.week.specs.declared.record.Week.{Week}
 use Rattle.week.specs.Record.{batchOf, readyOf}
 use Rattle.judge.proofs.Sound.{Sound, Named}
 use Rattle.planner.specs.Job.{jobListOf, weekJobs, weekChoice}
-use Rattle.planner.specs.Written.{chosenMinutes, stretchUnder, boundAfter, writtenStretch, MeetsAsWritten}
+use Rattle.planner.specs.Written.{chosenMinutes, stretchUnder, boundAfter, writtenStretch, FitsAt, MeetsAsWritten}
 use Rattle.planner.proofs.AsWritten.{job-written, version-written}
 
 -- what the rule asks of a recipe of m minutes, as a test and as it is written: of one that is set aside, nothing
@@ -67,26 +69,35 @@ module _ (w : Week) (sound : Sound w) {choice : List ℕ} (named : Named w choic
       ∙ ap (λ (i : ℕ). stretchUnder w choice bound i .start) here
       ∙ ap (boundAfter w choice) next
 
-  -- batches 1 to n under their bound
-  meets-to : (n : ℕ) → n ≤ w .count →
-      (meets (backward noJob (jobListOf w .jobs) n) (boundAfter w choice (w .count - n)) (backward 0 choice n) ≡ true)
-      ↔ ((i : ℕ) → 1 ≤ i → i ≤ n → 1 ≤ chosenMinutes w choice i →
-      readyOf (w .opening) (batchOf w i) + chosenMinutes w choice i ≤ writtenStretch w choice i .end)
-  meets-to zero within = (λ h i low high. absurd (omega arith), λ h. refl)
-  meets-to (suc n) within =
-      let here = asks-under (boundAfter w choice (w .count - suc n)) (suc n) (omega arith) within in
-      let before = meets-to n (omega arith) in
-      rw (bound-next n within) (
-        λ h i low high.
-            let both = and-eq-true-iff _ _ .0 h in
-            elim (ℕ-discrete i (suc n)) [
-              | yes e ↦ rw e (here .0 (both .0))
-              | no other ↦ before .0 (both .1) i low (omega arith)
-            ],
-        λ h.
-            and-eq-true-iff _ _ .1
-            (here .1 (h (suc n) (omega arith) (omega arith)), before .1 (λ i low high. h i low (omega arith))),
-      )
+  -- batches 1 to n under their bound: the failing position of these is f
+  pub record FailingOf (n f : ℕ) : Type 0 where
+    pub passes : f ≡ 0 → (i : ℕ) → 1 ≤ i → i ≤ n → FitsAt w choice i
+    pub fails : 1 ≤ f → (f ≤ n) × (FitsAt w choice f → ⊥) × ((h : ℕ) → f < h → h ≤ n → FitsAt w choice h)
+
+  -- one more batch, that fits or not
+  failing-next : (n f : ℕ) (q : Bool) → (q ≡ true) ↔ FitsAt w choice (suc n) → FailingOf n f → FailingOf (suc n) (cond q f (suc n))
+  failing-next n f true here before =
+      record {
+        passes = λ none i low high. at i low high (before .passes none i low);
+        fails = λ some.
+            let (within, fails, later) = before .fails some in
+            (omega (arith, within), fails, λ h after high. at h (omega arith) high (later h after));
+      }
+    where
+      at : (i : ℕ) → 1 ≤ i → i ≤ suc n → (i ≤ n → FitsAt w choice i) → FitsAt w choice i
+      at i low high before = elim (ℕ-discrete i (suc n)) [ yes e ↦ rw e (here .0 refl) | no other ↦ before (omega arith) ]
+  failing-next n f false here before =
+      record {
+        passes = λ none. absurd (omega (arith, none));
+        fails = λ some. (omega arith, λ fits. false≢true (here .1 fits), λ h after high. absurd (omega arith));
+      }
+
+  failing-to : (n : ℕ) → n ≤ w .count →
+      FailingOf n (failing (backward noJob (jobListOf w .jobs) n) (boundAfter w choice (w .count - n)) (backward 0 choice n))
+  failing-to zero within = record { passes = λ none i low high. absurd (omega arith); fails = λ some. absurd (omega arith) }
+  failing-to (suc n) within =
+      rw (bound-next n within, length-backward noJob (jobListOf w .jobs) n)
+      (failing-next n _ _ (asks-under (boundAfter w choice (w .count - suc n)) (suc n) (omega arith) within) (failing-to n (omega arith)))
 
   -- an array that holds their stretches
   stretches-to : (array : List Stretch) (n : ℕ) → n ≤ w .count →
@@ -106,8 +117,22 @@ module _ (w : Week) (sound : Sound w) {choice : List ℕ} (named : Named w choic
   unfolding boundAfter
   close-first = let none : w .count - w .count ≡ 0 = omega arith in rw none
 
+  -- the failing position of a choice is the first met going backward, over the desk's own numbers; it is 0 where none is
+  pub failing-written : FailingOf (w .count) (failing (weekJobs w) (w .closing) (weekChoice w choice))
+  failing-written = rw close-first at (failing-to (w .count) (omega arith))
+
   pub rule-written : (meets (weekJobs w) (w .closing) (weekChoice w choice) ≡ true) ↔ MeetsAsWritten w choice
-  rule-written = rw close-first at (meets-to (w .count) (omega arith))
+  rule-written =
+      Iff·trans (meets-failing (weekJobs w) (w .closing) (weekChoice w choice)) (
+        failing-written .passes,
+        λ met.
+            elim (ℕ-discrete (failing (weekJobs w) (w .closing) (weekChoice w choice)) 0) [
+              | yes z ↦ z
+              | no n ↦
+                  let (within, fails, _) = failing-written .fails (omega arith) in
+                  absurd (fails (met _ (omega arith) within))
+            ],
+      )
 
   pub stretch-written : (i : ℕ) → 1 ≤ i → i ≤ w .count → stretchAt (jobListOf w) choice (w .closing) i ≡ writtenStretch w choice i
   stretch-written =

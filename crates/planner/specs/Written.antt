@@ -1,6 +1,6 @@
 -- A choice over the numbers that the desk wrote: the recipes that it names, and the backward rule. Demand 2: "the desk's minutes stand as
 -- written". A choice is an array in list order here; positions count from 1.
-use Prim.Native.Nat.{ℕ, zero, suc, _+_, _-_, _≤_, min}
+use Prim.Native.Nat.{ℕ, zero, suc, _+_, _-_, _≤_, _<_, min}
 use mathlib.Core.Bool.{cond, not}
 use mathlib.Core.List.{List}
 use lib.Dec.{eqb}
@@ -39,9 +39,14 @@ module _ (w : Week) (choice : List ℕ) where
   abbrev pub writtenStretch : ℕ → Stretch
   writtenStretch i = stretchUnder (boundAfter (w .count - i)) i
 
-  -- "The rule asks that s plus the cost is at most that end.", of a batch that is read; one that is set aside "asks nothing". "It meets
-  -- the rule if what the rule asks holds at every batch."
+  -- "The rule asks that s plus the cost is at most that end.", of a batch that is read; one that is set aside "asks nothing"
+  abbrev pub FitsAt : ℕ → Type 0
+  FitsAt i = 1 ≤ chosenMinutes i → readyOf (w .opening) (batchOf w i) + chosenMinutes i ≤ writtenStretch i .end
+
+  -- "It meets the rule if what the rule asks holds at every batch."
   abbrev pub MeetsAsWritten : Type 0
-  MeetsAsWritten =
-      (i : ℕ) → 1 ≤ i → i ≤ w .count → 1 ≤ chosenMinutes i →
-      readyOf (w .opening) (batchOf w i) + chosenMinutes i ≤ writtenStretch i .end
+  MeetsAsWritten = (i : ℕ) → 1 ≤ i → i ≤ w .count → FitsAt i
+
+  -- "the first failing position met going backward"
+  abbrev pub FirstFailing : ℕ → Type 0
+  FirstFailing i = (FitsAt i → ⊥) × ((h : ℕ) → i < h → h ≤ w .count → FitsAt h)

@@ -13,7 +13,7 @@ use Rattle.week.specs.Refusal.{accepted, refused, refusedIf, orElse, fir
 use Rattle.week.specs.RefusalOrder.{stage, rank, NoLater, FirstToHold, _when_, _or_, someOf}
 use Rattle.week.proofs.First.{number-of, refuses-too, or-first, or-second, firstOf-append, first-none, place-if}
 
-no-later-self : (r : Refusal) → NoLater r r
+pub no-later-self : (r : Refusal) → NoLater r r
 no-later-self r =
     record { stages = omega arith; places = λ _. omega arith; numbers = λ _ _. omega arith; recipes = λ _ _. omega arith }
 
