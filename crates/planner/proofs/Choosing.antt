@@ -105,7 +105,7 @@ module _ (w : Week) (size : ℕ) where
   choose-answers = answers _ _ _
 
   -- the refusal answered is the first of the order
-  choose-refusal : chooseAnswer w size .refusal ≡ chooseFault w size
+  pub choose-refusal : chooseAnswer w size .refusal ≡ chooseFault w size
   unfolding chooseFault refusedPlan
   choose-refusal =
       answers-name choose-answers (λ (a : Plan). a .refusal)

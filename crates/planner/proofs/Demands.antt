@@ -28,8 +28,10 @@ use Rattle.select.specs.Table.{entryAt}
 use Rattle.week.specs.declared.record.Week.{Week}
 use Rattle.week.specs.Record.{maxBatches, batchOf, recipeOf, spanOf, readyOf}
 use Rattle.week.specs.Refusal.{refused}
+use Rattle.week.specs.RefusalOrder.{AtFault}
 use Rattle.judge.specs.Fault.{WellFormed, WellChosen}
 use Rattle.week.proofs.First.{number-of, refusedIf-none, refuses-too}
+use Rattle.week.proofs.Naming.{at-fault}
 use Rattle.judge.proofs.Sound.{Sound, sound, Named, choice-passes, choice-proper, handed-passes}
 use Rattle.judge.proofs.DueOrder.{position-order}
 use Rattle.week.proofs.Passes.{firstOf-passes}
@@ -41,18 +43,34 @@ use Rattle.planner.specs.Choose.{firstJobs, PicksTable, BestPlan, SomePl
 use Rattle.planner.specs.Written.{chosenMinutes, chosenWorth, writtenStretch, MeetsAsWritten}
 use Rattle.planner.specs.Run.{runFault, weekLog, setAside, refusedRun, runAnswer, logAfter, LongLog, unreadAt}
 use Rattle.planner.specs.Run.{StationLog, LogSays, InTime}
+use Rattle.planner.specs.Holds.{CheckHolds, checkNumbers, ChooseHolds, chooseNumbers, RunHolds, runNumbers}
 use Rattle.planner.proofs.Jobs.{handed-names, names-handed, plan-names, list-choice}
 use Rattle.planner.proofs.AsWritten.{total-written}
 use Rattle.planner.proofs.WrittenRule.{rule-written, stretch-written}
 use Rattle.planner.proofs.LateBatch.{late-recipe}
 use Rattle.planner.proofs.Checking.{check-refusal, fault-rule, rule-met, rule-broken, check-answers}
-use Rattle.planner.proofs.Choosing.{long-table, fill-faultless, plan-passed, answer-fault, fills-faultless, plan-exists}
+use Rattle.planner.proofs.Choosing.{choose-refusal, long-table, fill-faultless, plan-passed, answer-fault, fills-faultless, plan-exists}
 use Rattle.planner.proofs.Choosing.{plan-chosen, plan-absent, table-kept, table-filled}
 use Rattle.planner.proofs.Running.{run-refusal, run-faultless, log-kept, log-written, long-log, run-answers}
+use Rattle.planner.proofs.Holding.{check-holds, check-naming, choose-holds, choose-naming, run-holds, run-naming}
 use Rattle.planner.proofs.Station.{station-log, week-in-time}
 use Rattle.planner.proofs.Outcomes.{log-says, finished}
 
--- Demand 1: "The answer to any list of batches, in order or damaged, is either a plan or one numbered refusal".
+-- Demand 1: "The answer to any list of batches, in order or damaged, is either a plan or one numbered refusal, which says which batch is at
+-- fault where a batch is." 01: "The number answered is the first in this order whose condition holds, and nothing else is refused." The
+-- condition holds of the very batch and recipe that are named, and none that stands before it in the order does: every batch before passes
+-- whole.
+pub check-at-fault : (w : Week) (choice : List ℕ) →
+    AtFault (CheckHolds w choice) checkNumbers (w .count) 0 (checkAnswer w choice .refusal)
+check-at-fault w choice = rw (check-refusal w choice) (at-fault (check-holds w choice) (check-naming w choice))
+
+pub choose-at-fault : (w : Week) (size : ℕ) → AtFault (ChooseHolds w size) chooseNumbers (w .count) 0 (chooseAnswer w size .refusal)
+choose-at-fault w size = rw (choose-refusal w size) (at-fault (choose-holds w size) (choose-naming w size))
+
+pub run-at-fault : (w : Week) (choice : List ℕ) (size : ℕ) →
+    AtFault (RunHolds w choice size) runNumbers (w .count) 0 (runAnswer w choice size .refusal)
+run-at-fault w choice size = rw (run-refusal w choice size) (at-fault (run-holds w choice size) (run-naming w choice size))
+
 -- Check's contract answers `checkAnswer` on every input. Where that refuses, it is the first refusal of Check's order and 0
 -- everywhere else.
 pub check-refuses : (w : Week) (choice : List ℕ) → (checkAnswer w choice .refusal .number ≡ 0 → ⊥) →

@@ -5,16 +5,21 @@ use native.Mathlib.Decide.{ℕ-discrete}
 use mathlib.Core.Path.{_≡_, refl, sym, ap, _∙_}
 use mathlib.Core.Logic.{_↔_}
 use mathlib.Core.List.{List}
+use lib.ListN.{length}
+use Rattle.week.specs.RefusalOrder.{AtFault}
 use Rattle.judge.specs.Fault.{listFault, WellFormed}
 use Rattle.week.proofs.First.{number-of, refuses-too}
+use Rattle.week.proofs.Naming.{at-fault}
 use Rattle.sheet.specs.declared.read.Reading.{Reading}
 use Rattle.sheet.specs.Line.{linesOf, AreLines}
 use Rattle.sheet.specs.List.{sheetWeek}
 use Rattle.sheet.specs.Read.{readFault, refusedReading, readAnswer, WellWritten, ZeroBeyond}
 use Rattle.sheet.proofs.LinesWhole.{are-lines}
 use Rattle.sheet.proofs.WellWritten.{read-faultless}
+use Rattle.sheet.specs.Holds.{ReadHolds, readNumbers}
 use Rattle.sheet.proofs.Beyond.{empty-beyond, sheet-beyond}
 use Rattle.sheet.proofs.Reading.{read-answers, reading-refusal}
+use Rattle.sheet.proofs.Holding.{read-holds, sheet-naming}
 
 -- 01, "The sheet": "Each line is one frame .., ended by a line feed." The lines put together are the sheet, none is empty, and a
 -- line feed ends each but perhaps the last and stands nowhere else.
@@ -34,7 +39,12 @@ pub read-refuses : (sheet : List ℕ) → (readAnswer sheet .refusal .number ≡
     readAnswer sheet ≡ refusedReading (readFault sheet)
 read-refuses sheet n = read-answers sheet .refused refl (refuses-too (reading-refusal sheet) n)
 
--- "The number answered is the first in this order whose condition holds" ..
+-- Demand 1: "one numbered refusal, which says which batch is at fault where a batch is". 01: "The number answered is the first in this order
+-- whose condition holds": it holds of the very line, or batch and recipe, that are named, and none that stands before it does.
+pub read-at-fault : (sheet : List ℕ) →
+    AtFault (ReadHolds sheet) readNumbers (sheetWeek sheet .count) (length (linesOf sheet)) (readAnswer sheet .refusal)
+read-at-fault sheet = rw (reading-refusal sheet) (at-fault (read-holds sheet) (sheet-naming sheet))
+
 pub read-refusal : (sheet : List ℕ) → readAnswer sheet .refusal ≡ readFault sheet
 read-refusal = reading-refusal
 

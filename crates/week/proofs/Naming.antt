@@ -8,7 +8,7 @@ use lib.Dec.{eqb}
 use Rattle.arrays.proofs.Tests.{either-holds, or-true}
 use Rattle.week.specs.declared.refusal.Refusal.{Refusal}
 use Rattle.week.specs.Refusal.{refused}
-use Rattle.week.specs.RefusalOrder.{oneOf, leastPlace, greatestPlace, ofRecipe, Naming, _when_}
+use Rattle.week.specs.RefusalOrder.{oneOf, leastPlace, greatestPlace, ofRecipe, Naming, FirstToHold, AtFault, _when_}
 
 pub when-naming : (numbers : List ℕ) (n lines number place recipe : ℕ) {P : Type 0} →
     oneOf numbers number ≡ true → leastPlace number ≤ place → place ≤ greatestPlace n lines number →
@@ -38,3 +38,8 @@ module _ {n lines : ℕ} {r : Refusal} where
   pub naming-after : (numbers more : List ℕ) → Naming numbers n lines r → Naming (numbers ++ more) n lines r
   naming-after numbers more h =
       record { number = one-after numbers more _ (h .number); least = h .least; greatest = h .greatest; recipe = h .recipe }
+
+-- a refusal that is the first to hold, where what holds names what it should
+pub at-fault : {Holds : Refusal → Type 0} {numbers : List ℕ} {n lines : ℕ} {r : Refusal} → FirstToHold Holds r →
+    ((s : Refusal) → Holds s → Naming numbers n lines s) → AtFault Holds numbers n lines r
+at-fault {r = r} first names = record { first = first; names = λ some. names r (first .holds some) }

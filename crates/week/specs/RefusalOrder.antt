@@ -84,9 +84,14 @@ greatestPlace n lines number = cond (oneOf (13 ∷ ofBatch) number) n (cond (one
 abbrev pub ofRecipe : List ℕ
 ofRecipe = 7 ∷ 8 ∷ []
 
--- what a refusal names, that can have some numbers
+-- what a refusal names, which has one of some numbers
 pub record Naming (numbers : List ℕ) (n lines : ℕ) (r : Refusal) : Type 0 where
   pub number : oneOf numbers (r .number) ≡ true
   pub least : leastPlace (r .number) ≤ r .place
   pub greatest : r .place ≤ greatestPlace n lines (r .number)
   pub recipe : oneOf ofRecipe (r .number) ≡ false → r .recipe ≡ 0
+
+-- demand 1: "one numbered refusal, which says which batch is at fault where a batch is"
+pub record AtFault (Holds : Refusal → Type 0) (numbers : List ℕ) (n lines : ℕ) (r : Refusal) : Type 0 where
+  pub first : FirstToHold Holds r
+  pub names : (r .number ≡ 0 → ⊥) → Naming numbers n lines r
