@@ -1,8 +1,8 @@
 -- A list's refusal, and a choice's, is the first of the order whose condition holds.
 use Prim.Native.Nat.{ℕ, zero, suc, _-_, _≤_, _<_}
 use native.Mathlib.Omega.{arith}
-use mathlib.Core.Path.{_≡_, refl, sym, _∙_}
-use mathlib.Core.Logic.{_↔_, _⊎_, ⊎-elim, Iff·trans}
+use mathlib.Core.Path.{_≡_, refl, sym}
+use mathlib.Core.Logic.{_⊎_, ⊎-elim, Iff·trans}
 use mathlib.Core.Bool.{true, false, true≢false}
 use mathlib.Core.List.{List, [], _∷_, map, flatten}
 use lib.ListN.{length, getD}
@@ -14,12 +14,11 @@ use Rattle.arrays.proofs.Tests.{lt-holds, le-holds, same-holds, same-fails, not
 use Rattle.week.specs.declared.record.Week.{Week}
 use Rattle.week.specs.declared.refusal.Refusal.{Refusal}
 use Rattle.week.specs.Record.{maxMinutes, maxBatches, maxRecipes, batchAt, recipeAt, batchOf, numberAt, spanOf}
-use Rattle.week.specs.Order.{before}
 use Rattle.week.specs.Refusal.{refused, firstOf, first, atPlace}
 use Rattle.week.specs.RefusalOrder.{oneOf, stage, rank, leastPlace, greatestPlace, ofRecipe, Naming, NoLater, FirstToHold, _when_, _or_, someOf}
 use Rattle.week.proofs.First.{place-each, place-first, first-up}
-use Rattle.week.proofs.Holding.{Ahead, if-holds, at-holds, or-holds, one-holds, some-within, some-holds, AtPlace, when-place, place-ahead, recipe-ahead}
-use Rattle.week.proofs.Holding.{AtRank, when-rank, FromRank, rank-last, rank-more, stage-ahead}
+use Rattle.week.proofs.Holding.{if-holds, at-holds, or-holds, one-holds, some-within, some-holds, AtPlace, when-place, place-ahead, recipe-ahead}
+use Rattle.week.proofs.Holding.{when-rank, FromRank, rank-last, rank-more, stage-ahead}
 use Rattle.week.proofs.Naming.{when-naming}
 use Rattle.judge.specs.BatchFault.{costFault, costsFault, worthFault, worthsFault}
 use Rattle.judge.specs.Fault.{weekFault, numberFault, orderFault, batchFaults, batchFault, listFault, nameFault, choiceFault, handedFaults}

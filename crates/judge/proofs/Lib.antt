@@ -2,5 +2,4 @@ pub mod Walk
 pub mod WellFormed
 pub mod DueOrder
 pub mod Sound
-pub mod ListNumbers
 pub mod Holding

@@ -5,12 +5,9 @@ use native.Mathlib.Nat.{mul-le-mul}
 use native.Mathlib.Omega.{arith}
 use mathlib.Core.Path.{_≡_, refl, sym, ap, _∙_}
 use mathlib.Core.Logic.{_↔_, Iff·trans, inl, inr, ⊎-elim}
-use mathlib.Core.Bool.{Bool, not}
 use mathlib.Core.List.{List, [], _∷_}
 use mathlib.Core.Option.{Option, none, some}
 use lib.ListN.{length}
-use lib.Dec.{eqb}
-use borrow.Author.Tests.{eqb-false, ne-eqb, not-true}
 use Rattle.arrays.proofs.Cases.{option-cases}
 use Rattle.jobs.specs.Choice.{total}
 use Rattle.jobs.specs.Best.{Chosen}
@@ -20,19 +17,17 @@ use Rattle.select.specs.Table.{filled}
 use Rattle.week.specs.declared.record.Week.{Week}
 use Rattle.week.specs.declared.refusal.Refusal.{Refusal}
 use Rattle.week.specs.Record.{maxMinutes}
-use Rattle.week.specs.Refusal.{firstOf, shortFault}
 use Rattle.judge.specs.Fault.{listFault, WellFormed}
 use Rattle.week.proofs.First.{Proper, number-of, refuses-too, firstOf-here, firstOf-last, firstOf-proper, append-first, append-last}
 use Rattle.week.proofs.Passes.{firstOf-passes, short-proper, short-passes}
 use Rattle.week.proofs.Answering.{Answers, answers, answers-name, unless-passed, unless-refused}
-use Rattle.week.proofs.RefusalNumbers.{Numbered, or-numbered, refusedIf-numbered}
-use Rattle.judge.proofs.ListNumbers.{list-numbered}
 use Rattle.judge.proofs.WellFormed.{list-proper}
 use Rattle.judge.proofs.Sound.{sound}
 use Rattle.planner.specs.declared.choose.Plan.{Plan}
 use Rattle.planner.specs.Job.{jobListOf, weekJobs, weekChoice}
 use Rattle.planner.specs.Choose.{widthOf, maxPicks, tableFault, planFault, weekBest, fillFaults, fillFault, chooseFault}
 use Rattle.planner.specs.Choose.{refusedPlan, planOf, chooseAnswer, tableAfter, FillsTable, LongTable}
+use Rattle.planner.proofs.Holding.{fill-other}
 
 -- 14, where there is no best choice
 pub plan-proper : (o : Option (List ℕ)) → Proper (planFault o)
@@ -84,12 +79,6 @@ module _ (w : Week) (size : ℕ) where
     λ (list, table). (number-of list, (number-of table, tt)),
   )
 
-  fill-other : Numbered (λ n. not (eqb n 14)) (fillFault w size)
-  unfolding fillFault tableFault shortFault firstOf
-  fill-other =
-      let other : ℕ → Bool = λ n. not (eqb n 14) in
-      search (or-numbered other, refusedIf-numbered other, list-numbered other (λ n l. ap not (ne-eqb n 14 (λ e. omega arith))) w)
-
   -- the first refusal of Choose's order: what refuses the filling, or 14
   choose-fill : (fillFault w size .number ≡ 0 → ⊥) → chooseFault w size ≡ fillFault w size
   unfolding chooseFault fillFault
@@ -137,7 +126,7 @@ module _ (w : Week) (size : ℕ) where
           | yes z ↦ z
           | no n ↦
               let same = plan-number (plan-refused refl n) in
-              absurd (⊎-elim (λ e. n (sym same ∙ e)) (λ e. eqb-false _ _ (not-true _ fill-other) (sym same ∙ e)) fills)
+              absurd (⊎-elim (λ e. n (sym same ∙ e)) (λ e. fill-other w size n (sym same ∙ e)) fills)
         ],
     λ z.
         ⊎-elim (λ e. inr (plan-number (plan-passed z e))) (λ s. inl (plan-number (plan-passed z (s .1)))) (option-cases (weekBest w)),

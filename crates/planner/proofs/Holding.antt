@@ -1,31 +1,32 @@
 -- The refusal of Check, of Choose and of Run is the first of the order whose condition holds, and what it names.
-use Prim.Native.Nat.{ℕ, _*_, _≤_, _<_}
+use Prim.Native.Nat.{ℕ, _*_, _≤_}
 use native.Mathlib.Decide.{ℕ-discrete, decLe}
 use native.Mathlib.Omega.{arith}
-use mathlib.Core.Path.{_≡_, refl, sym}
-use mathlib.Core.Logic.{_↔_, ⊎-elim}
-use mathlib.Core.List.{List, [], _∷_, _++_}
+use mathlib.Core.Path.{_≡_, refl}
+use mathlib.Core.Logic.{⊎-elim}
+use mathlib.Core.Bool.{false≢true}
+use mathlib.Core.List.{List, [], _∷_}
 use mathlib.Core.Option.{Option, none, some}
 use Rattle.arrays.proofs.Tests.{lt-holds}
 use Rattle.jobs.specs.Rule.{failing}
-use Rattle.jobs.proofs.BestOfAll.{best-some, best-none, none-best}
+use Rattle.jobs.proofs.BestOfAll.{best-some, best-none}
 use Rattle.week.specs.declared.record.Week.{Week}
 use Rattle.week.specs.declared.refusal.Refusal.{Refusal}
 use Rattle.week.specs.Record.{spanOf}
-use Rattle.week.specs.Refusal.{accepted, refused, firstOf, shortFault}
-use Rattle.week.specs.RefusalOrder.{stage, NoLater, FirstToHold, _when_, _or_, someOf, leastPlace, greatestPlace, Naming}
+use Rattle.week.specs.Refusal.{refused, firstOf, shortFault}
+use Rattle.week.specs.RefusalOrder.{stage, FirstToHold, _when_, someOf, leastPlace, greatestPlace, Naming}
 use Rattle.week.proofs.Holding.{no-later-self, if-holds, or-holds, one-holds, append-holds, when-place, stage-ahead}
 use Rattle.week.proofs.Naming.{when-naming, naming-before, naming-after}
 use Rattle.judge.specs.Fault.{listFault, handedFaults}
-use Rattle.judge.specs.Holds.{ListHolds, ChoiceHolds, listNumbers}
+use Rattle.judge.specs.Holds.{listNumbers}
 use Rattle.judge.proofs.Holding.{list-holds, list-stages, handed-holds, handed-stages, list-naming, choice-naming}
 use Rattle.judge.proofs.Sound.{Sound, sound, Named, choice-passes, handed-passes}
 use Rattle.planner.specs.Job.{weekJobs, weekChoice}
-use Rattle.planner.specs.Written.{FitsAt, FirstFailing}
+use Rattle.planner.specs.Written.{FirstFailing}
 use Rattle.planner.specs.Check.{ruleFault, checkFault}
-use Rattle.planner.specs.Choose.{widthOf, tableFault, planFault, weekBest, fillFaults, chooseFault, NoPlan}
+use Rattle.planner.specs.Choose.{widthOf, tableFault, planFault, weekBest, fillFaults, fillFault, chooseFault, NoPlan}
 use Rattle.planner.specs.Run.{logFault, runFault}
-use Rattle.planner.specs.Holds.{CheckHolds, checkNumbers, ChooseHolds, chooseNumbers, RunHolds, runNumbers}
+use Rattle.planner.specs.Holds.{CheckHolds, checkNumbers, FillHolds, fillNumbers, ChooseHolds, chooseNumbers, RunHolds, runNumbers}
 use Rattle.planner.proofs.WrittenRule.{failing-written}
 use Rattle.planner.proofs.Checking.{rule-met, rule-broken}
 
@@ -124,20 +125,34 @@ plan-holds w = by-best (weekBest w) refl
         }
 
 module _ (w : Week) (size : ℕ) where
-  -- 11, and 14
+  -- 11
+  fill-holds : FirstToHold (FillHolds w size) (fillFault w size)
+  unfolding fillFault tableFault shortFault firstOf stage
+  fill-holds =
+      or-holds (listFault w) _ (list-holds w) (λ _. one-holds _ (if-holds 11 0 0 refl (lt-holds size (w .count * widthOf w))))
+      (stage-ahead (λ r h. list-stages w r h .1) (λ r h. omega (arith, when-place 11 0 0 r h .0)))
+
+  fill-naming : (r : Refusal) → FillHolds w size r → Naming fillNumbers (w .count) 0 r
+  unfolding leastPlace greatestPlace
+  fill-naming r =
+      ⊎-elim (λ h. naming-after listNumbers (11 ∷ []) (list-naming w 0 r h))
+      (when-naming fillNumbers (w .count) 0 11 0 0 refl (omega arith) (omega arith) (λ _. refl) r)
+
+  -- what refuses the filling is not 14
+  pub fill-other : (fillFault w size .number ≡ 0 → ⊥) → fillFault w size .number ≡ 14 → ⊥
+  fill-other n fourteen = false≢true (rw fourteen at (fill-naming (fillFault w size) (fill-holds .holds n) .number))
+
+  -- and 14
   pub choose-holds : FirstToHold (ChooseHolds w size) (chooseFault w size)
-  unfolding chooseFault tableFault shortFault firstOf stage
+  unfolding chooseFault fillFault stage
   choose-holds =
-      or-holds (listFault w) _ (list-holds w)
-      (λ _.
-      or-holds (tableFault w size) _ (if-holds 11 0 0 refl (lt-holds size (w .count * widthOf w))) (λ _. one-holds _ (plan-holds w))
-      (stage-ahead {σ = 5} (λ r h. omega (arith, when-place 11 0 0 r h .0)) (λ r h. omega (arith, when-place 14 0 0 r h .0))))
-      (stage-ahead (λ r h. list-stages w r h .1)
-      (λ r. ⊎-elim (λ h. omega (arith, when-place 11 0 0 r h .0)) (λ h. omega (arith, when-place 14 0 0 r h .0))))
+      append-holds (fillFaults w size) (planFault (weekBest w) ∷ []) fill-holds (λ _. one-holds _ (plan-holds w))
+      (stage-ahead {σ = 5}
+      (λ r. ⊎-elim (λ h. omega (arith, list-stages w r h .1)) (λ h. omega (arith, when-place 11 0 0 r h .0)))
+      (λ r h. omega (arith, when-place 14 0 0 r h .0)))
 
   pub choose-naming : (r : Refusal) → ChooseHolds w size r → Naming chooseNumbers (w .count) 0 r
   unfolding leastPlace greatestPlace
   choose-naming r =
-      ⊎-elim (λ h. naming-after listNumbers (11 ∷ 14 ∷ []) (list-naming w 0 r h))
-      (⊎-elim (when-naming chooseNumbers (w .count) 0 11 0 0 refl (omega arith) (omega arith) (λ _. refl) r)
-      (when-naming chooseNumbers (w .count) 0 14 0 0 refl (omega arith) (omega arith) (λ _. refl) r))
+      ⊎-elim (λ h. naming-after fillNumbers (14 ∷ []) (fill-naming r h))
+      (when-naming chooseNumbers (w .count) 0 14 0 0 refl (omega arith) (omega arith) (λ _. refl) r)

@@ -19,13 +19,19 @@ CheckHolds w choice =
 abbrev pub checkNumbers : List ℕ
 checkNumbers = listNumbers ++ (13 ∷ 15 ∷ [])
 
--- "11: picks table shorter than n × (c − t + 1), n being the batches.", "14: no choice meets the rule (Choose)."
+-- "11: picks table shorter than n × (c − t + 1), n being the batches."
+abbrev pub FillHolds : Week → ℕ → Refusal → Type 0
+FillHolds w size = ListHolds w or (refused 11 0 0 when (size < w .count * widthOf w))
+
+abbrev pub fillNumbers : List ℕ
+fillNumbers = listNumbers ++ (11 ∷ [])
+
+-- "14: no choice meets the rule (Choose)."
 abbrev pub ChooseHolds : Week → ℕ → Refusal → Type 0
-ChooseHolds w size =
-    ListHolds w or (refused 11 0 0 when (size < w .count * widthOf w)) or (refused 14 0 0 when NoPlan w)
+ChooseHolds w size = FillHolds w size or (refused 14 0 0 when NoPlan w)
 
 abbrev pub chooseNumbers : List ℕ
-chooseNumbers = listNumbers ++ (11 ∷ 14 ∷ [])
+chooseNumbers = fillNumbers ++ (14 ∷ [])
 
 -- "12: log shorter than c − t."
 abbrev pub RunHolds : Week → List ℕ → ℕ → Refusal → Type 0

@@ -3,16 +3,15 @@ use Prim.Native.Nat.{ℕ, suc, _≤_, _<_, max}
 use native.Mathlib.Decide.{ℕ-discrete}
 use native.Mathlib.Omega.{arith}
 use mathlib.Core.Path.{_≡_, refl, ap}
-use mathlib.Core.Logic.{_↔_, _⊎_, inl, inr, ⊎-elim}
-use mathlib.Core.Bool.{Bool, true, false, not, true≢false, false≢true}
+use mathlib.Core.Logic.{inl, inr, ⊎-elim}
+use mathlib.Core.Bool.{true}
 use mathlib.Core.List.{List, [], _∷_, flatten}
 use lib.ListN.{length}
-use lib.Dec.{eqb}
 use Rattle.arrays.proofs.Tests.{lt-holds, same-holds, same-fails, not-holds}
 use Rattle.week.specs.declared.refusal.Refusal.{Refusal}
-use Rattle.week.specs.Refusal.{refused, refusedIf, firstOf, first}
+use Rattle.week.specs.Refusal.{refused, refusedIf, firstOf}
 use Rattle.week.specs.RefusalOrder.{oneOf, stage, rank, FirstToHold, _when_, leastPlace, greatestPlace, Naming}
-use Rattle.week.proofs.Holding.{if-holds, or-here, or-there, or-holds, one-holds, some-within, some-holds, AtPlace, when-place}
+use Rattle.week.proofs.Holding.{if-holds, or-here, or-there, or-holds, one-holds, some-holds, AtPlace, when-place}
 use Rattle.week.proofs.Holding.{place-ahead, rank-ahead, stage-ahead}
 use Rattle.week.proofs.Naming.{when-naming, naming-before}
 use Rattle.judge.specs.Holds.{listNumbers}
@@ -89,6 +88,12 @@ read-holds sheet =
     (stage-ahead {σ = 0} (λ r h. omega (arith, when-place 18 0 0 r h .0))
     (λ r.
     ⊎-elim (λ h. omega (arith, lines-stage (linesOf sheet) r h)) (λ h. omega (arith, list-stages (sheetWeek sheet) r h .0))))
+
+pub read-stages : (sheet : List ℕ) (r : Refusal) → ReadHolds sheet r → stage (r .number) ≤ 3
+unfolding stage
+read-stages sheet r =
+    ⊎-elim (λ h. omega (arith, when-place 18 0 0 r h .0))
+    (⊎-elim (λ h. omega (arith, lines-stage (linesOf sheet) r h)) (λ h. list-stages (sheetWeek sheet) r h .1))
 
 -- and what it names
 pub sheet-naming : (sheet : List ℕ) (r : Refusal) → ReadHolds sheet r →

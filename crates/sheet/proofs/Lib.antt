@@ -12,6 +12,5 @@ pub mod Listed
 pub mod Beyond
 pub mod Reading
 pub mod WellWritten
-pub mod SheetNumbers
 pub mod Holding
 pub mod Demands

@@ -2,6 +2,5 @@ pub mod First
 pub mod Passes
 pub mod Answering
 pub mod Holding
-pub mod RefusalNumbers
 pub mod Owned
 pub mod Naming

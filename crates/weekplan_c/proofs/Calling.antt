@@ -4,33 +4,29 @@ use native.Mathlib.Decide.{ℕ-discrete}
 use native.Mathlib.Omega.{arith}
 use mathlib.Core.Path.{_≡_, refl, sym, ap, _∙_}
 use mathlib.Core.Logic.{_↔_, Iff·trans, inl, inr, ⊎-elim}
-use mathlib.Core.Bool.{Bool, true, not}
 use mathlib.Core.List.{List, [], _∷_, _++_}
 use lib.ListN.{length, drop}
 use lib.IntN.{ℤ, pos}
-use lib.Dec.{eqb}
-use borrow.Author.Tests.{eqb-false, ne-eqb, not-true}
 use Rattle.arrays.specs.Bits.{max16}
 use Rattle.week.specs.declared.record.Week.{Week}
 use Rattle.week.specs.declared.refusal.Refusal.{Refusal}
 use Rattle.week.specs.Record.{maxBatches}
-use Rattle.week.specs.Refusal.{firstOf, shortFault}
+use Rattle.week.specs.Refusal.{firstOf}
 use Rattle.week.proofs.First.{Proper, number-of, refuses-too, append-first, append-last, append-rest}
 use Rattle.week.proofs.Passes.{short-proper, firstOf-passes, short-passes, append-passes}
 use Rattle.week.proofs.Answering.{Answers, answers, unless-passed, unless-refused}
 use Rattle.judge.proofs.Sound.{sound}
-use Rattle.week.proofs.RefusalNumbers.{Numbered, or-numbered, refusedIf-numbered, append-numbered}
-use Rattle.planner.specs.Choose.{tableFault, planFault, fillFault, weekBest, planChoice, chooseAnswer, tableAfter, LongTable}
+use Rattle.planner.specs.Choose.{planFault, fillFault, weekBest, planChoice, chooseAnswer, tableAfter, LongTable}
 use Rattle.planner.proofs.Jobs.{handed-names, total-small, list-choice}
 use Rattle.planner.proofs.Demands.{choose-best, choose-names}
 use Rattle.planner.proofs.Choosing.{fill-faultless, fills-faultless, plan-fault, plan-proper, table-proper}
 use Rattle.sheet.specs.List.{sheetWeek}
 use Rattle.sheet.specs.Read.{readFaults, readFault, WellWritten}
 use Rattle.sheet.proofs.Values.{worths-small}
-use Rattle.sheet.proofs.SheetNumbers.{read-numbered}
 use Rattle.sheet.proofs.WellWritten.{read-faultless}
 use Rattle.weekplan_c.specs.Call.{bufferFault, lentFaults, keepFaults, keepFault, callFault, minusOf, callAnswer, picksAfter}
 use Rattle.weekplan_c.specs.Call.{recipesAfter, Planned, CallFills, LongBuffer}
+use Rattle.weekplan_c.proofs.Holding.{keep-other}
 use Rattle.weekplan_c.proofs.Signed.{minus-injective, not-minus}
 
 module _ (sheet : List ℕ) (tableSize bufferSize : ℕ) where
@@ -79,14 +75,6 @@ module _ (sheet : List ℕ) (tableSize bufferSize : ℕ) where
   pub keep-fills : keep .number ≡ 0 → fillFault w tableSize .number ≡ 0
   keep-fills z = let passed = keep-faultless .0 z in fill-faultless w tableSize .1 (passed .0 .list, passed .1)
 
-  -- a test that its numbers pass
-  pub keep-numbered : (ok : ℕ → Bool) → ok 0 ≡ true → ((n : ℕ) → n ≤ 10 → ok n ≡ true) → ok 11 ≡ true → ok 16 ≡ true →
-      ok 17 ≡ true → ok 18 ≡ true → ok 19 ≡ true → Numbered ok keep
-  unfolding keepFault readFault tableFault bufferFault shortFault firstOf
-  keep-numbered ok none ten eleven sixteen seventeen eighteen nineteen =
-      append-numbered ok (readFaults sheet) (lentFaults w tableSize bufferSize)
-      (read-numbered ok none ten sixteen seventeen eighteen sheet) (search (or-numbered ok, refusedIf-numbered ok))
-
   -- the first refusal of the call's order
   pub call-keep : (keep .number ≡ 0 → ⊥) → call ≡ keep
   unfolding callFault keepFault
@@ -110,13 +98,9 @@ module _ (sheet : List ℕ) (tableSize bufferSize : ℕ) where
   pub call-no-plan : call .number ≡ 14 →
       (keep .number ≡ 0) × (chooseAnswer w tableSize .refusal .number ≡ 14)
   call-no-plan f =
-      let other : ℕ → Bool = λ n. not (eqb n 14) in
-      let ten : (n : ℕ) → n ≤ 10 → other n ≡ true = λ n l. ap not (ne-eqb n 14 (λ e. omega arith)) in
       elim (ℕ-discrete (keep .number) 0) [
         | yes z ↦ (z, number-of (sym (call-plan z)) ∙ f)
-        | no n ↦
-            absurd
-            (eqb-false _ _ (not-true _ (keep-numbered other refl ten refl refl refl refl refl)) (number-of (sym (call-keep n)) ∙ f))
+        | no n ↦ absurd (keep-other sheet tableSize bufferSize n (number-of (sym (call-keep n)) ∙ f))
       ]
 
   pub call-answer : Answers call (λ r. minusOf (r .number)) (pos (chooseAnswer w tableSize .total)) answer

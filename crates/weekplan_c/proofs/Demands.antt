@@ -5,18 +5,19 @@ use Prim.Native.Nat.{ℕ, _≤_}
 use native.Mathlib.Decide.{ℕ-discrete}
 use native.Mathlib.Omega.{arith}
 use mathlib.Core.Path.{_≡_, refl, sym, ap, _∙_}
-use mathlib.Core.Logic.{_↔_, _⊎_, inl, inr, ⊎-elim}
+use mathlib.Core.Logic.{_↔_, _⊎_, inl, inr}
 use mathlib.Core.Bool.{true}
 use mathlib.Core.List.{List}
 use lib.ListN.{length, getD, drop}
 use lib.IntN.{ℤ, pos, natAbs}
 use lib.Seq.{take-at}
-use borrow.Author.Tests.{le-leb}
 use Rattle.arrays.specs.Sum.{sumTo}
 use Rattle.arrays.proofs.Front.{length-kept, later-kept}
 use Rattle.week.specs.declared.record.Week.{Week}
 use Rattle.week.specs.Record.{maxBatches}
+use Rattle.week.specs.RefusalOrder.{oneOf, AtFault}
 use Rattle.week.proofs.First.{number-of}
+use Rattle.week.proofs.Naming.{at-fault}
 use Rattle.judge.proofs.Sound.{sound}
 use Rattle.planner.specs.Job.{listChoice}
 use Rattle.planner.specs.Choose.{maxPicks, planChoice, chooseAnswer, PicksTable, SomePlan, NoPlan, LongTable}
@@ -25,42 +26,44 @@ use Rattle.planner.specs.Run.{runAnswer, LongLog}
 use Rattle.planner.proofs.Choosing.{picks-enough, fills-faultless}
 use Rattle.planner.proofs.Demands.{choose-fills, choose-names, choose-total, choose-runs, choose-best, choose-none, choose-plans}
 use Rattle.planner.proofs.Jobs.{list-choice}
+use Rattle.sheet.specs.Line.{linesOf}
 use Rattle.sheet.specs.List.{sheetWeek}
 use Rattle.sheet.specs.Read.{WellWritten}
-use Rattle.weekplan_c.specs.Call.{keepFault, callFault, minusOf, callAnswer, picksAfter, recipesAfter, Planned, CallFills}
-use Rattle.weekplan_c.specs.Call.{callNumber, BestCall, LongBuffer}
-use Rattle.weekplan_c.proofs.Calling.{keep-faultless, keep-fills, keep-numbered, call-keep, call-plan, call-passed}
+use Rattle.weekplan_c.specs.Call.{callFault, minusOf, callAnswer, picksAfter, recipesAfter, Planned, CallFills}
+use Rattle.weekplan_c.specs.Call.{BestCall, LongBuffer}
+use Rattle.weekplan_c.specs.Holds.{CallHolds, callNumbers}
+use Rattle.weekplan_c.proofs.Holding.{call-holds, call-naming}
+use Rattle.weekplan_c.proofs.Calling.{keep-faultless, keep-fills, call-plan, call-passed}
 use Rattle.weekplan_c.proofs.Calling.{call-answer, long-buffer, answer-small, planned-passes, answer-no-plan, call-no-plan}
 use Rattle.weekplan_c.proofs.Calling.{fills-keep-faultless, picks-filled, picks-kept, recipes-written, recipes-kept}
 
 module _ (sheet : List ℕ) (tableSize bufferSize : ℕ) where
-  -- Demand 1: "The answer to any list of batches, in order or damaged, is either a plan or one numbered refusal": 01 gives the call the
-  -- number alone, "minus the refusal number". Any bytes get a total, or minus the number of the first refusal of the call's order ..
+  -- Demand 1: "The answer to any list of batches, in order or damaged, is either a plan or one numbered refusal, which says which batch is
+  -- at fault where a batch is." 01 gives the call the number alone, "minus the refusal number". Any bytes get a total, or minus the number
+  -- of the first refusal of the call's order ..
   pub call-refuses : (Planned (callAnswer sheet tableSize bufferSize) → ⊥) →
       callAnswer sheet tableSize bufferSize ≡ minusOf (callFault sheet tableSize bufferSize .number)
   call-refuses n = call-answer sheet tableSize bufferSize .refused refl (λ z. n (planned-passes sheet tableSize bufferSize .1 z))
 
-  call-number : callNumber (callFault sheet tableSize bufferSize .number) ≡ true
-  call-number =
-      let ten : (n : ℕ) → n ≤ 10 → callNumber n ≡ true = λ n l. rw (le-leb n 11 (omega arith)) in
-      elim (ℕ-discrete (keepFault sheet tableSize bufferSize .number) 0) [
-        | yes z ↦
-            ap callNumber (number-of (call-plan sheet tableSize bufferSize z))
-            ∙ ⊎-elim (ap callNumber) (ap callNumber)
-            (fills-faultless (sheetWeek sheet) tableSize .1 (keep-fills sheet tableSize bufferSize z))
-        | no n ↦
-            ap callNumber (number-of (call-keep sheet tableSize bufferSize n))
-            ∙ keep-numbered sheet tableSize bufferSize callNumber refl ten refl refl refl refl refl
-      ]
+  -- .. whose condition holds, and none that stands before it does ..
+  pub call-at-fault :
+      AtFault (CallHolds sheet tableSize bufferSize) callNumbers (sheetWeek sheet .count) (length (linesOf sheet))
+      (callFault sheet tableSize bufferSize)
+  call-at-fault = at-fault (call-holds sheet tableSize bufferSize) (call-naming sheet tableSize bufferSize)
 
-  -- .. which is one of 1 to 11, 14 and 16 to 19.
+  -- .. and which is one of 1 to 11, 14 and 16 to 19.
   pub call-answers :
       Planned (callAnswer sheet tableSize bufferSize)
-      ⊎ ((n : ℕ) × (1 ≤ n) × (callNumber n ≡ true) × (callAnswer sheet tableSize bufferSize ≡ minusOf n))
+      ⊎ ((n : ℕ) × (oneOf callNumbers n ≡ true) × (callAnswer sheet tableSize bufferSize ≡ minusOf n))
   call-answers =
       elim (ℕ-discrete (callFault sheet tableSize bufferSize .number) 0) [
         | yes z ↦ inl (planned-passes sheet tableSize bufferSize .1 z)
-        | no n ↦ inr (callFault sheet tableSize bufferSize .number, omega arith, call-number, call-answer sheet tableSize bufferSize .refused refl n)
+        | no n ↦
+            inr (
+              callFault sheet tableSize bufferSize .number,
+              call-at-fault .names n .number,
+              call-answer sheet tableSize bufferSize .refused refl n,
+            )
       ]
 
 module _ (sheet picks recipes : List ℕ) where

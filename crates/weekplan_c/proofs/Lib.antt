@@ -1,3 +1,4 @@
 pub mod Signed
+pub mod Holding
 pub mod Calling
 pub mod Demands

@@ -3,10 +3,8 @@
 use Prim.Native.Nat.{ℕ}
 use mathlib.Core.Path.{_≡_}
 use mathlib.Core.Logic.{_⊎_}
-use mathlib.Core.Bool.{Bool, _&&_, _||_}
 use mathlib.Core.List.{List, [], _∷_, _++_}
 use lib.ListN.{length, drop}
-use lib.Dec.{leb, eqb}
 use lib.IntN.{ℤ, pos, negℤ}
 use Rattle.jobs.specs.Choice.{total}
 use Rattle.jobs.specs.Best.{Chosen}
@@ -70,10 +68,6 @@ Planned answer = (sum : ℕ) × (answer ≡ pos sum)
 -- an answer with which the table is filled: a total, or minus 14
 abbrev pub CallFills : ℤ → Type 0
 CallFills answer = Planned answer ⊎ (answer ≡ minusOf 14)
-
--- the numbers that the call can refuse with: 1 to 11, 14, 16 to 19
-abbrev pub callNumber : ℕ → Bool
-callNumber n = leb n 11 || (eqb n 14 || (leb 16 n && leb n 19))
 
 -- demand 3 of the call: "the plan meets the rule, and the total answered is the sum of its recipes' worths. Every other choice of one
 -- recipe a batch that meets the rule has a smaller total, or the same total and a higher recipe number at the last batch where the two
