@@ -3,27 +3,36 @@
 use Prim.Native.Nat.{ℕ, _≤_}
 use native.Mathlib.Decide.{ℕ-discrete}
 use native.Mathlib.Omega.{arith}
-use mathlib.Core.Path.{_≡_, sym, ap, _∙_}
-use mathlib.Core.Logic.{_↔_}
+use mathlib.Core.Path.{_≡_, refl, sym, ap, _∙_}
+use mathlib.Core.Logic.{_↔_, ⊎-elim}
 use mathlib.Core.List.{List, [], _∷_, flatten}
+use lib.ListN.{length}
 use Rattle.edf.specs.Run.{idle, changes}
 use Rattle.week.specs.declared.record.Week.{Week}
+use Rattle.week.specs.declared.refusal.Refusal.{Refusal}
 use Rattle.week.specs.Record.{maxMinutes}
+use Rattle.week.specs.RefusalOrder.{stage, FirstToHold, leastPlace, greatestPlace, Naming, AtFault}
 use Rattle.week.proofs.First.{number-of, refuses-too, append-first, append-last}
+use Rattle.week.proofs.Holding.{one-holds, append-holds, when-place, stage-ahead}
+use Rattle.week.proofs.Naming.{when-naming, naming-after, at-fault}
 use Rattle.planner.specs.declared.choose.Plan.{Plan}
 use Rattle.planner.specs.Check.{checkAnswer}
 use Rattle.planner.specs.Choose.{maxPicks, planFault, weekBest, planChoice, chooseAnswer, BestPlan, SomePlan}
 use Rattle.planner.specs.Run.{weekLog, runAnswer}
 use Rattle.planner.proofs.Choosing.{picks-enough, fill-faultless, plan-fault, plan-proper}
+use Rattle.planner.proofs.Holding.{plan-holds}
 use Rattle.planner.proofs.Demands.{choose-best, choose-plans, choose-names, choose-meets}
 use Rattle.sheet.specs.Line.{linesOf}
 use Rattle.sheet.specs.List.{sheetWeek}
 use Rattle.sheet.specs.Read.{readFaults, readFault, WellWritten}
+use Rattle.sheet.specs.Holds.{readNumbers}
 use Rattle.sheet.proofs.OneLine.{lines-flatten}
+use Rattle.sheet.proofs.Holding.{read-holds, read-stages, sheet-naming}
 use Rattle.sheet.proofs.Demands.{read-passes, read-refusal, read-reads}
 use Rattle.report.specs.Decimal.{decimal, Numeral}
 use Rattle.report.specs.Line.{refusalLine}
 use Rattle.report.specs.Report.{batchAnswer, planLines, weekLines, reportLines, reportOf, LineSays, reportFault}
+use Rattle.report.specs.Report.{ReportHolds, reportNumbers}
 use Rattle.report.proofs.Numerals.{numeral}
 use Rattle.report.proofs.Ended.{report-ones}
 use Rattle.report.proofs.Reporting.{week-refused, week-planned, planned-list, report-refused, report-read}
@@ -59,8 +68,24 @@ module _ (sheet : List ℕ) where
       let none = number-of (read-refusal sheet) ∙ z in
       report-read sheet none ∙ ap weekLines (read-passes sheet none .1)
 
-  -- Demand 1: "The answer to any list of batches, in order or damaged, is either a plan or one numbered refusal". 01: "A refusal writes
-  -- one line only, "refused" and its three numbers": those of the first refusal of the order, ..
+  report-holds : FirstToHold (ReportHolds sheet) (reportFault sheet)
+  unfolding reportFault readFault stage
+  report-holds =
+      append-holds (readFaults sheet) (planFault (weekBest w) ∷ []) (read-holds sheet) (λ _. one-holds _ (plan-holds w))
+      (stage-ahead (read-stages sheet) (λ r h. omega (arith, when-place 14 0 0 r h .0)))
+
+  report-naming : (r : Refusal) → ReportHolds sheet r → Naming reportNumbers (w .count) (length (linesOf sheet)) r
+  unfolding leastPlace greatestPlace
+  report-naming r =
+      ⊎-elim (λ h. naming-after readNumbers (14 ∷ []) (sheet-naming sheet r h))
+      (when-naming reportNumbers (w .count) (length (linesOf sheet)) 14 0 0 refl (omega arith) (omega arith) (λ _. refl) r)
+
+  -- Demand 1: "The answer to any list of batches, in order or damaged, is either a plan or one numbered refusal, which says which batch is
+  -- at fault where a batch is." 01: "A refusal writes one line only, "refused" and its three numbers": those of the first refusal of the
+  -- order whose condition holds, of the very line, or batch and recipe, that are named ..
+  pub report-at-fault : AtFault (ReportHolds sheet) reportNumbers (w .count) (length (linesOf sheet)) (reportFault sheet)
+  report-at-fault = at-fault report-holds report-naming
+
   pub report-refuses : (reportFault sheet .number ≡ 0 → ⊥) → reportOf sheet ≡ refusalLine (reportFault sheet)
   report-refuses n =
       elim (ℕ-discrete (readFault sheet .number) 0) [

@@ -11,17 +11,19 @@ use Rattle.edf.specs.declared.outcome.Outcome.the-variants.{SetAside, Finished,
 use Rattle.week.specs.declared.record.Week.{Week}
 use Rattle.week.specs.declared.refusal.Refusal.{Refusal}
 use Rattle.week.specs.Record.{maxMinutes, batchOf}
-use Rattle.week.specs.Refusal.{firstOf, answerBy}
+use Rattle.week.specs.Refusal.{refused, firstOf, answerBy}
+use Rattle.week.specs.RefusalOrder.{_when_, _or_}
 use Rattle.planner.specs.declared.check.Checked.{Checked}
 use Rattle.planner.specs.declared.choose.Plan.{Plan}
 use Rattle.planner.specs.declared.run.WeekRun.{WeekRun}
 use Rattle.planner.specs.Job.{jobListOf}
 use Rattle.planner.specs.Check.{checkAnswer}
-use Rattle.planner.specs.Choose.{maxPicks, planFault, weekBest, planChoice, chooseAnswer}
+use Rattle.planner.specs.Choose.{maxPicks, planFault, weekBest, planChoice, chooseAnswer, NoPlan}
 use Rattle.planner.specs.Written.{chosenMinutes}
 use Rattle.planner.specs.Run.{setAside, weekLog, runAnswer, outcomeSaid}
 use Rattle.sheet.specs.List.{sheetWeek}
 use Rattle.sheet.specs.Read.{readFaults, readAnswer}
+use Rattle.sheet.specs.Holds.{ReadHolds, readNumbers}
 use Rattle.report.specs.declared.ReportText.{ReportText}
 use Rattle.report.specs.declared.line.BatchLine.{BatchLine}
 use Rattle.report.specs.Line.{weekLine, totalLine, batchLine, refusalLine, maxText}
@@ -97,3 +99,10 @@ pub record LineSays (w : Week) (choice : List ℕ) (i : ℕ) (line : BatchLine) 
 -- then 14". What 11, 12, 13 and 19 ask of a caller does not arise.
 unfoldable pub reportFault : List ℕ → Refusal
 reportFault sheet = firstOf (readFaults sheet ++ (planFault (weekBest (sheetWeek sheet)) ∷ []))
+
+-- when one of them holds, and where, and the numbers that they have
+abbrev pub ReportHolds : List ℕ → Refusal → Type 0
+ReportHolds sheet = ReadHolds sheet or (refused 14 0 0 when NoPlan (sheetWeek sheet))
+
+abbrev pub reportNumbers : List ℕ
+reportNumbers = readNumbers ++ (14 ∷ [])
