@@ -39,7 +39,7 @@ NumberHolds w i =
 abbrev pub OrderHolds : Week → ℕ → Type 0
 OrderHolds w i = (1 < i) × (before (w .opening) (batchOf w (i - 1)) (batchOf w i) ≡ false)
 
--- of the batch at position i: "4: a batch has no recipe, or more than 10. 5: d is not after r. 6: r is not before c.", and 7 to 10
+-- of the batch at position i: "4: a batch has no recipe, or more than 10.", "5: d is not after r. 6: r is not before c.", and 7 to 10
 abbrev pub BatchHolds : Week → ℕ → Refusal → Type 0
 BatchHolds w i =
     (refused 4 i 0 when ((batchOf w i .count ≡ 0) ⊎ (maxRecipes < batchOf w i .count)))

@@ -14,6 +14,7 @@ use Rattle.arrays.specs.Position.{atPosition, forward}
 use Rattle.arrays.specs.Sum.{sumTo}
 use Rattle.arrays.proofs.Places.{length-backward, length-forward, position-beyond}
 use Rattle.jobs.specs.Model.{noJob}
+use Rattle.jobs.specs.declared.rule.Stretch.{Stretch}
 use Rattle.jobs.specs.Rule.{meets, failing, stretches}
 use Rattle.jobs.specs.Stretches.{noStretch, stretchAt}
 use Rattle.jobs.specs.Choice.{total, Higher}
@@ -46,7 +47,7 @@ use Rattle.planner.specs.Run.{StationLog, LogSays, InTime}
 use Rattle.planner.specs.Holds.{CheckHolds, checkNumbers, ChooseHolds, chooseNumbers, RunHolds, runNumbers}
 use Rattle.planner.proofs.Jobs.{handed-names, names-handed, plan-names, list-choice}
 use Rattle.planner.proofs.AsWritten.{total-written}
-use Rattle.planner.proofs.WrittenRule.{rule-written, stretch-written}
+use Rattle.planner.proofs.WrittenRule.{rule-written, stretch-written, written-by-due}
 use Rattle.planner.proofs.LateBatch.{late-recipe}
 use Rattle.planner.proofs.Checking.{check-refusal, fault-rule, rule-met, rule-broken, check-answers}
 use Rattle.planner.proofs.Choosing.{choose-refusal, long-table, fill-faultless, plan-passed, answer-fault, fills-faultless, plan-exists}
@@ -290,6 +291,16 @@ module _
     run-finishes =
         rw (run-answers w choice (length log) .passed (nothing-refuses w choice log runs))
         (finished w (list-sound w choice log runs) choice (choice-named w choice log runs) meeting)
+
+    -- "No parish opens before its batch has been read.": it is finished by its due minute.
+    pub run-by-due : (i : ℕ) → 1 ≤ i → i ≤ w .count → 1 ≤ chosenMinutes w choice i →
+        (f : ℕ)
+        × (outcomeNumbers (atPosition setAside (runAnswer w choice (length log) .batches) i .outcome) ≡ 1 ∷ f ∷ [])
+        × (f ≤ batchOf w i .due)
+    run-by-due i low high some =
+        let (f, is, in-time) = run-finishes i low high some in
+        let written = stretch-written w (list-sound w choice log runs) (choice-named w choice log runs) i low high in
+        (f, is, omega (arith, in-time, ap (λ (s : Stretch). s .end) written, written-by-due w choice i some))
 
 -- A plan that Choose answers.
 module _ (w : Week) (size : ℕ) (planned : chooseAnswer w size .refusal .number ≡ 0) where

@@ -138,3 +138,8 @@ module _ (w : Week) (sound : Sound w) {choice : List ℕ} (named : Named w choic
   stretch-written =
       stretches-to (stretchesOf (weekJobs w) (w .closing) (weekChoice w choice)) (w .count) (omega arith)
       (rw close-first (placed-stretches (jobListOf w .jobs) choice (w .closing) (w .count)))
+
+-- the stretch of a batch that is read ends by its due minute
+pub written-by-due : (w : Week) (choice : List ℕ) (i : ℕ) → 1 ≤ chosenMinutes w choice i → writtenStretch w choice i .end ≤ batchOf w i .due
+unfolding stretchUnder
+written-by-due w choice i some = rw (zero-fails (chosenMinutes w choice i) .1 some) (omega arith)

@@ -18,7 +18,7 @@ maxBytes = 4096
 unfoldable pub sizeFault : List ℕ → Refusal
 sizeFault sheet = refusedIf 18 0 0 (ltb maxBytes (length sheet))
 
--- "16: a line that is no frame, or has no line feed. 17: the first line .. is no week, or a later one is a week.": the place is
+-- "16: a line that is no frame, or has no line feed." "17: the first line .. is no week, or a later one is a week.": the place is
 -- "the line from 1"
 unfoldable pub frameFault : ℕ → Frame → Refusal
 frameFault place frame.None = refused 16 place 0
