@@ -10,12 +10,9 @@ use Rattle.edf.specs.declared.workload.Workload.{Workload}
 use Rattle.edf.specs.declared.outcome.Outcome.{Outcome}
 use Rattle.edf.specs.Run.{logOf, outcomeOf}
 
--- the ready minute of position i, and its due minute
+-- the ready minute of position i
 abbrev pub readyAt : JobList → ℕ → ℕ
 readyAt list i = atPosition noJob (list .jobs) i .ready
-
-abbrev pub dueAt : JobList → ℕ → ℕ
-dueAt list i = atPosition noJob (list .jobs) i .due
 
 -- the minutes that a choice gives the station to read there
 abbrev pub minutesAt : JobList → List ℕ → ℕ → ℕ
