@@ -1,8 +1,8 @@
 -- A list's refusal, and a choice's, is the first of the order whose condition holds.
 use Prim.Native.Nat.{ℕ, zero, suc, _-_, _≤_, _<_}
 use native.Mathlib.Omega.{arith}
-use mathlib.Core.Path.{_≡_, refl, sym}
-use mathlib.Core.Logic.{_⊎_, ⊎-elim, Iff·trans}
+use mathlib.Core.Path.{_≡_, refl, sym, _∙_}
+use mathlib.Core.Logic.{_⊎_, inr, ⊎-elim, Iff·trans}
 use mathlib.Core.Bool.{true, false, true≢false}
 use mathlib.Core.List.{List, [], _∷_, map, flatten}
 use lib.ListN.{length, getD}
@@ -134,6 +134,13 @@ module _ (w : Week) where
       some-holds (BatchHolds w) (batchFault w) (w .count)
       (λ i l. rw (place-each (suc i) (batchFaults w i)) (batch-rank i .decides))
       (λ i j less. place-ahead (omega arith) (batch-place i) (batch-place j))
+
+  -- where a batch is at fault, every batch before it passes whole: r stands no later than any condition of the list
+  pub batches-before : (r : Refusal) → ((s : Refusal) → ListHolds w s → NoLater r s) → stage (r .number) ≡ batchStage →
+      (h : ℕ) → suc h < r .place → h < w .count → (s : Refusal) → BatchHolds w (suc h) s → ⊥
+  batches-before r no-later at h before within s holds =
+      let (asked, place) = batch-place h s holds in
+      omega (arith, place, no-later s (inr (suc h, omega arith, within, holds)) .places (at ∙ sym asked))
 
   pub list-stages : (r : Refusal) → ListHolds w r → (weekStage ≤ stage (r .number)) × (stage (r .number) ≤ batchStage)
   list-stages r =
