@@ -52,9 +52,6 @@ module _ (w : Week) (sound : Sound w) where
         ∙ version-at (w .opening) (batchAt w i) k (named .each i below .0) few
         ∙ ap recipeVersion (sym (position-index noRecipe (batchAt w i .recipes) k (named .each i below .0)))
 
-    pub version-cost : (i : ℕ) → 1 ≤ i → i ≤ w .count → versionAt (jobListOf w) choice i .cost ≡ chosenMinutes w choice i
-    version-cost i low high = ap (λ (v : Version). v .cost) (version-written i low high)
-
     pub minutes-written : (i : ℕ) → 1 ≤ i → i ≤ w .count → minutesAt (jobListOf w) choice i ≡ chosenMinutes w choice i
     minutes-written i low high = ap minutesOf (version-written i low high) ∙ read-cost (chosenMinutes w choice i)
 

@@ -117,8 +117,8 @@ pub run-runs : (w : Week) (choice : List ℕ) (size : ℕ) →
     (runAnswer w choice size .refusal .number ≡ 0) ↔ (WellFormed w × WellChosen w choice × LongLog w size)
 run-runs w choice size =
     let same = number-of (run-refusal w choice size) in
-    let fill-faultless = run-faultless w choice size in
-    (λ z. fill-faultless .0 (sym same ∙ z), λ h. same ∙ fill-faultless .1 h)
+    let faultless = run-faultless w choice size in
+    (λ z. faultless .0 (sym same ∙ z), λ h. same ∙ faultless .1 h)
 
 -- .. and where it refuses, the answer is the first refusal of Run's order, 0 and set aside everywhere else, and the log is kept.
 pub run-refuses : (w : Week) (choice : List ℕ) (size : ℕ) → (runAnswer w choice size .refusal .number ≡ 0 → ⊥) →
