@@ -90,8 +90,8 @@ enum weekplan_refusal {
  * its worths; every other choice of recipes that meets the rule has a smaller total, or the same
  * total and a higher recipe number at the last batch where the two differ. In the station's run of
  * the plan the minutes that each batch gets before its stretch ends number exactly its recipe's
- * minutes. Refusal 14 is given exactly when the sheet and the sizes of both buffers pass and no
- * choice meets the rule.
+ * minutes. Where the sheet and the sizes of both buffers pass, refusal 14 is given exactly when no
+ * choice meets the rule, and a plan whenever one does.
  *
  * What the call leaves in the two buffers, on every input:
  *
