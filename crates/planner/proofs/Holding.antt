@@ -15,7 +15,7 @@ use Rattle.week.specs.declared.refusal.Refusal.{Refusal}
 use Rattle.week.specs.Record.{spanOf}
 use Rattle.week.specs.Refusal.{refused, firstOf, shortFault}
 use Rattle.week.specs.RefusalOrder.{stage, FirstToHold, _when_, someOf, leastPlace, greatestPlace, Naming}
-use Rattle.week.proofs.Holding.{no-later-self, if-holds, or-holds, one-holds, append-holds, when-place, stage-ahead}
+use Rattle.week.proofs.Holding.{no-later-self, nothing-holds, when-holds, if-holds, or-holds, one-holds, append-holds, when-place, stage-ahead}
 use Rattle.week.proofs.Naming.{when-naming, naming-before, naming-after}
 use Rattle.judge.specs.Fault.{listFault, handedFaults}
 use Rattle.judge.specs.Holds.{listNumbers}
@@ -54,13 +54,7 @@ module _ (w : Week) (choice : List ℕ) where
   rule-holds fine named =
       let said = failing-written w fine named in
       elim (ℕ-discrete failed 0) [
-        | yes z ↦
-            rw (rule-met w choice z)
-            record {
-              holds = λ n. absurd (n refl);
-              first = λ n. absurd (n refl);
-              nothing = λ _ s (i, low, high, h). h .1 .0 (said .passes z i low high);
-            }
+        | yes z ↦ rw (rule-met w choice z) (nothing-holds (λ s (i, low, high, h). h .1 .0 (said .passes z i low high)))
         | no n ↦
             let (within, here, later) = said .fails (omega arith) in
             rw (rule-broken w choice n)
@@ -111,18 +105,10 @@ pub plan-holds : (w : Week) → FirstToHold (refused 14 0 0 when NoPlan w) (plan
 plan-holds w = by-best (weekBest w) refl
   where
     by-best : (o : Option (List ℕ)) → weekBest w ≡ o → FirstToHold (refused 14 0 0 when NoPlan w) (planFault o)
-    by-best none e =
-        record {
-          holds = λ _. (refl, best-none (weekJobs w) (w .closing) e);
-          first = λ _ s h. rw (h .0) (no-later-self (refused 14 0 0));
-          nothing = λ z. absurd (omega (arith, z));
-        }
+    by-best none e = when-holds 14 0 0 refl (best-none (weekJobs w) (w .closing) e)
     by-best (some ks) e =
-        record {
-          holds = λ n. absurd (n refl);
-          first = λ n. absurd (n refl);
-          nothing = λ _ s h. let chosen = best-some (weekJobs w) (w .closing) ks e in h .1 ks (chosen .valid) (chosen .meeting);
-        }
+        let chosen = best-some (weekJobs w) (w .closing) ks e in
+        nothing-holds (λ s h. h .1 ks (chosen .valid) (chosen .meeting))
 
 module _ (w : Week) (size : ℕ) where
   -- 11

@@ -9,9 +9,9 @@ use mathlib.Core.List.{List, [], _∷_, flatten}
 use lib.ListN.{length}
 use Rattle.arrays.proofs.Tests.{lt-holds, same-holds, same-fails, not-holds}
 use Rattle.week.specs.declared.refusal.Refusal.{Refusal}
-use Rattle.week.specs.Refusal.{refused, refusedIf, firstOf}
+use Rattle.week.specs.Refusal.{refused, firstOf}
 use Rattle.week.specs.RefusalOrder.{oneOf, stage, rank, FirstToHold, _when_, leastPlace, greatestPlace, Naming}
-use Rattle.week.proofs.Holding.{if-holds, or-here, or-there, or-holds, one-holds, some-holds, AtPlace, when-place}
+use Rattle.week.proofs.Holding.{when-holds, if-holds, or-here, or-there, or-holds, one-holds, some-holds, AtPlace, when-place}
 use Rattle.week.proofs.Holding.{place-ahead, rank-ahead, stage-ahead}
 use Rattle.week.proofs.Naming.{when-naming, naming-before}
 use Rattle.judge.specs.Holds.{listNumbers}
@@ -37,9 +37,9 @@ kind Batch = 2
 
 -- 16 and 17 of a line
 frame-holds : (i : ℕ) (f : Frame) → FirstToHold (FrameHolds (suc i) f) (frameFault (suc i) f)
-unfolding frameFault refusedIf stage rank flatten kind
+unfolding frameFault stage rank flatten kind
 frame-holds i None =
-    or-here (if-holds 16 (suc i) 0 refl {holds = true} (λ _. refl, λ _. refl)) (λ z. omega (arith, z))
+    or-here (when-holds 16 (suc i) 0 refl refl) (λ z. omega (arith, z))
     (rank-ahead 16 17 (suc i) refl (omega arith))
 frame-holds i Week =
     or-there (λ s h. omega (arith, ap kind (h .1)))

@@ -31,7 +31,21 @@ earlier-stage r s before =
 abbrev pub Ahead : (A B : Refusal → Type 0) → Type 0
 Ahead A B = (s t : Refusal) → A s → B t → NoLater s t
 
--- of one condition
+-- nothing holds
+pub nothing-holds : {A : Refusal → Type 0} → ((s : Refusal) → A s → ⊥) → FirstToHold A accepted
+nothing-holds none = record { holds = λ n. absurd (n refl); first = λ n. absurd (n refl); nothing = λ _. none }
+
+-- one condition that holds
+pub when-holds : (number place recipe : ℕ) → eqb number 0 ≡ false → {P : Type 0} → P →
+    FirstToHold (refused number place recipe when P) (refused number place recipe)
+when-holds number place recipe some p =
+    record {
+      holds = λ _. (refl, p);
+      first = λ _ s h. rw (h .0) (no-later-self (refused number place recipe));
+      nothing = λ z. absurd (eqb-false number 0 some z);
+    }
+
+-- .. or not
 pub if-holds : (number place recipe : ℕ) → eqb number 0 ≡ false → {holds : Bool} {P : Type 0} → (holds ≡ true) ↔ P →
     FirstToHold (refused number place recipe when P) (refusedIf number place recipe holds)
 unfolding refusedIf
@@ -39,18 +53,8 @@ if-holds number place recipe some {holds} {P} says = by-case holds says
   where
     by-case : (holds : Bool) → (holds ≡ true) ↔ P →
         FirstToHold (refused number place recipe when P) (refusedIf number place recipe holds)
-    by-case true says =
-        record {
-          holds = λ _. (refl, says .0 refl);
-          first = λ _ s h. rw (h .0) (no-later-self (refused number place recipe));
-          nothing = λ z. absurd (eqb-false number 0 some z);
-        }
-    by-case false says =
-        record {
-          holds = λ n. absurd (n refl);
-          first = λ n. absurd (n refl);
-          nothing = λ _ s h. absurd (false≢true (says .1 (h .1)));
-        }
+    by-case true says = when-holds number place recipe some (says .0 refl)
+    by-case false says = nothing-holds (λ s h. false≢true (says .1 (h .1)))
 
 -- .. that names no place, in the place that it is given
 pub at-holds : (number place recipe : ℕ) → eqb number 0 ≡ false → {holds : Bool} {P : Type 0} → (holds ≡ true) ↔ P →
@@ -93,9 +97,7 @@ pub one-holds : {A : Refusal → Type 0} (a : Refusal) → FirstToHold A a → F
 unfolding firstOf
 one-holds {A} a h =
     elim (ℕ-discrete (a .number) 0) [
-      | yes z ↦
-          rw (or-second a accepted z)
-          record { holds = λ n. absurd (n refl); first = λ n. absurd (n refl); nothing = λ _. h .nothing z }
+      | yes z ↦ rw (or-second a accepted z) (nothing-holds (h .nothing z))
       | no n ↦ rw (or-first a accepted n) h
     ]
 
@@ -155,25 +157,23 @@ some-holds C f n each ahead =
           let at = found f 0 n some in
           rw (at .is)
           (suc (at .at), omega arith, omega (arith, at .below), each (at .at) (omega (arith, at .below)) .holds (refuses-too (at .is) some));
-      first = λ some s h.
+      first = λ some s.
           let at = found f 0 n some in
-          rw (at .is) (against (at .at) (omega (arith, at .below)) (refuses-too (at .is) some) (at .before) s (h .0) (h .1) (h .2) (h .3));
-      nothing = λ z s h. none (first-none f n z) (h .0) (h .1) (h .2) s (h .3);
+          rw (at .is)
+          (some-within C (NoLater (f (at .at))) n
+          (against (at .at) (omega (arith, at .below)) (refuses-too (at .is) some) (at .before))
+          s);
+      nothing = λ z. some-within C (λ _. ⊥) n (λ i l. each i l .nothing (first-none f n z i l));
     }
   where
-    none : ((h : ℕ) → h < n → f h .number ≡ 0) → (i : ℕ) → 1 ≤ i → i ≤ n → (s : Refusal) → C i s → ⊥
-    none each-none zero low high s h = absurd (omega arith)
-    none each-none (suc i) low high s h = each i (omega arith) .nothing (each-none i (omega arith)) s h
-
     against : (at : ℕ) → at < n → (f at .number ≡ 0 → ⊥) → ((h : ℕ) → 0 ≤ h → h < at → f h .number ≡ 0) →
-        (s : Refusal) (i : ℕ) → 1 ≤ i → i ≤ n → C i s → NoLater (f at) s
-    against at below some before s zero low high h = absurd (omega arith)
-    against at below some before s (suc i) low high h =
+        (i : ℕ) → i < n → (s : Refusal) → C (suc i) s → NoLater (f at) s
+    against at below some before i within s h =
         elim (ℕ-discrete i at) [
           | yes e ↦ each at below .first some s (rw e at h)
           | no other ↦
               elim (decLe i at) [
-                | yes earlier ↦ absurd (each i (omega arith) .nothing (before i (omega arith) (omega arith)) s h)
+                | yes earlier ↦ absurd (each i within .nothing (before i (omega arith) (omega arith)) s h)
                 | no later ↦ ahead at i (omega arith) (f at) s (each at below .holds some) h
               ]
         ]
