@@ -1,5 +1,5 @@
--- The buyer's demands, each quoted above its theorem; README.md has all three, and 01's "The words of demand 3" says what their words
--- mean. The contracts say that the code answers what the definitions say, on every input; the theorems here say that the
+-- The buyer's demands, each sentence above its theorem; docs/PROMISES.md has a row for each, and 01's "The words of demand 3" says what
+-- their words mean. The contracts say that the code answers what the definitions say, on every input; the theorems here say that the
 -- definitions are what the buyer asked for.
 use Prim.Native.Nat.{ℕ, _-_, _≤_, _<_}
 use native.Mathlib.Decide.{ℕ-discrete}
