@@ -2,12 +2,11 @@
 use Prim.Native.Nat.{ℕ, zero, suc, _-_, _≤_, _<_}
 use native.Mathlib.Omega.{arith}
 use mathlib.Core.Path.{_≡_, refl, sym, _∙_}
-use mathlib.Core.Logic.{_⊎_, inr, ⊎-elim, Iff·trans}
+use mathlib.Core.Logic.{inr, ⊎-elim, Iff·trans}
 use mathlib.Core.Bool.{true, false, true≢false}
 use mathlib.Core.List.{List, [], _∷_, map, flatten}
 use lib.ListN.{length, getD}
 use lib.Dec.{eqb}
-use Rattle.arrays.specs.Position.{atPosition}
 use Rattle.arrays.specs.Each.{someBelow}
 use Rattle.arrays.proofs.Each.{below-some, some-below}
 use Rattle.arrays.proofs.Tests.{lt-holds, le-holds, same-holds, same-fails, not-holds, either-holds, both-hold}
@@ -22,7 +21,7 @@ use Rattle.week.proofs.Holding.{when-rank, FromRank, rank-last, rank-more, stag
 use Rattle.week.proofs.Naming.{when-naming}
 use Rattle.judge.specs.BatchFault.{costFault, costsFault, worthFault, worthsFault}
 use Rattle.judge.specs.Fault.{weekFault, numberFault, orderFault, batchFaults, batchFault, listFault, nameFault, choiceFault, handedFaults}
-use Rattle.judge.specs.Holds.{WeekHolds, CostHolds, WorthHolds, NumberHolds, OrderHolds, BatchHolds, ListHolds, ChoiceHolds, listNumbers}
+use Rattle.judge.specs.Holds.{WeekHolds, CostHolds, WorthHolds, NumberHolds, OrderHolds, BatchHolds, ListHolds, NameHolds, ChoiceHolds, listNumbers}
 
 -- the stages of the order that a list and a choice are asked in
 abbrev weekStage : ℕ
@@ -160,7 +159,7 @@ module _ (w : Week) where
   -- 13
   module _ (choice : List ℕ) where
     abbrev NameAt : ℕ → Refusal → Type 0
-    NameAt i = refused 13 i 0 when ((atPosition 0 choice i ≡ 0) ⊎ (batchOf w i .count < atPosition 0 choice i))
+    NameAt i = refused 13 i 0 when NameHolds w choice i
 
     names-hold : FirstToHold (someOf (w .count) NameAt) (first (nameFault w choice) 0 (w .count))
     unfolding nameFault

@@ -55,10 +55,12 @@ abbrev pub ListHolds : Week → Refusal → Type 0
 ListHolds w = WeekHolds w or someOf (w .count) (BatchHolds w)
 
 -- "13: a choice whose length is not n (position 0), or that names a recipe its batch has not got (the first such position)."
+abbrev pub NameHolds : Week → List ℕ → ℕ → Type 0
+NameHolds w choice i = (atPosition 0 choice i ≡ 0) ⊎ (batchOf w i .count < atPosition 0 choice i)
+
 abbrev pub ChoiceHolds : Week → List ℕ → Refusal → Type 0
 ChoiceHolds w choice =
-    (refused 13 0 0 when (length choice ≡ w .count → ⊥))
-    or someOf (w .count) (λ i. refused 13 i 0 when ((atPosition 0 choice i ≡ 0) ⊎ (batchOf w i .count < atPosition 0 choice i)))
+    (refused 13 0 0 when (length choice ≡ w .count → ⊥)) or someOf (w .count) (λ i. refused 13 i 0 when NameHolds w choice i)
 
 -- the numbers of a list: 1 to 10
 abbrev pub listNumbers : List ℕ
