@@ -1,11 +1,11 @@
 -- Lists that stand last first, and the arrays that hold them in list order: laws over any elements.
 use Prim.Native.Nat.{ℕ, zero, suc, _+_, _-_, _≤_, _<_}
 use native.Mathlib.Omega.{arith}
-use mathlib.Core.Path.{_≡_, refl, ap, ap₂, subst, _∙_}
+use mathlib.Core.Path.{_≡_, refl, sym, ap, ap₂, subst, _∙_}
 use mathlib.Core.List.{List, [], _∷_, _++_, append-assoc}
-use lib.ListN.{length, getD, take, drop, set, replicate, length-append, length-replicate, replicate-append-replicate}
+use lib.ListN.{length, getD, take, drop, set, replicate, length-append, length-take, length-replicate, replicate-append-replicate}
 use lib.ListN.{List·getD-eq-default}
-use lib.Seq.{getD-at, getD-take, drop-at, set-at}
+use lib.Seq.{length-take-le, getD-at, getD-take, drop-at, set-at, ext-getD}
 use Rattle.arrays.specs.Position.{atPosition, backward, forward}
 use Rattle.arrays.specs.Made.{padded, placed}
 
@@ -58,6 +58,23 @@ module _ {A : Type 0} where
   -- the entries of the array are those of the list, and d past it
   pub padded-at : (m : ℕ) (d : A) (xs : List A) (i : ℕ) → getD (padded m d xs) i d ≡ getD xs i d
   padded-at m d xs i = append-replicate-at xs (m - length xs) d i
+
+  -- the first of the array are the first of the list, padded
+  pub take-padded : (n m : ℕ) (d : A) (xs : List A) → n ≤ m → take n (padded m d xs) ≡ padded n d (take n xs)
+  take-padded n m d xs h =
+      let few = length-take n xs in
+      ext-getD d (take n (padded m d xs)) (padded n d (take n xs)) (size ∙ sym (length-padded n d (take n xs) (omega arith)))
+      (λ i l. at i (omega (arith, size)))
+    where
+      size : length (take n (padded m d xs)) ≡ n
+      size = length-take-le n (padded m d xs) (simp (length-append, length-replicate) (omega arith))
+
+      at : (i : ℕ) → i < n → getD (take n (padded m d xs)) i d ≡ getD (padded n d (take n xs)) i d
+      at i low =
+          getD-take n (padded m d xs) i d low
+          ∙ padded-at m d xs i
+          ∙ sym (getD-take n xs i d low)
+          ∙ sym (padded-at n d (take n xs) i)
 
   pub placed-beyond : (m : ℕ) (d : A) (xs : List A) (i : ℕ) → length xs ≤ i → getD (placed m d xs) i d ≡ d
   placed-beyond m d xs i h = padded-at m d (forward xs) i ∙ List·getD-eq-default (forward xs) d (omega (arith, length-forward xs))

@@ -5,3 +5,4 @@ pub mod Each
 pub mod Patched
 pub mod Sum
 pub mod Example
+pub mod Text

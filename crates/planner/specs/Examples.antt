@@ -30,14 +30,14 @@ use Rattle.planner.specs.Choose.{widthOf, tableFault, fillFault, chooseF
 use Rattle.planner.specs.Run.{logFault, runFault, weekLog, logAnswer, refusedRun, runAnswer, logAfter}
 
 -- The lists.
-abbrev recipe : ℕ → ℕ → Recipe
+abbrev pub recipe : ℕ → ℕ → Recipe
 recipe cost worth = record { cost = cost; worth = worth }
 
-abbrev batch : (number r d : ℕ) → List Recipe → Batch
+abbrev pub batch : (number r d : ℕ) → List Recipe → Batch
 batch number r d rs =
     record { number = number; arrival = r; due = d; count = length rs; recipes = rs ++ replicate (maxRecipes - length rs) noRecipe }
 
-abbrev week : (t c : ℕ) → List Batch → Week
+abbrev pub week : (t c : ℕ) → List Batch → Week
 week t c bs =
     record { opening = t; closing = c; count = length bs; batches = bs ++ replicate (maxBatches - length bs) emptyBatch }
 
@@ -46,7 +46,7 @@ abbrev falling : ℕ → ℕ → List Recipe
 falling u zero = []
 falling u (suc n) = recipe (u * suc n) (suc n) ∷ falling u n
 
-weekW : Week
+unfoldable pub weekW : Week
 weekW =
     week 0 100
     (batch 7 0 40 (recipe 30 9 ∷ recipe 10 4 ∷ [])
@@ -63,7 +63,7 @@ weekE c =
     ∷ batch 3 540 2340 (falling 22 10)
     ∷ [])
 
-weekG : List Recipe → Week
+unfoldable pub weekG : List Recipe → Week
 weekG rs = week 0 10 (batch 1 0 10 rs ∷ [])
 
 weekJ : Week
@@ -72,7 +72,7 @@ weekJ = week 0 10 (batch 1 5 9 (recipe 4 1 ∷ []) ∷ batch 2 0 10 (recipe 5 1 
 weekK : ℕ → Week
 weekK d = week 20 30 (batch 1 5 d (recipe 1 1 ∷ []) ∷ [])
 
-weekLate : Week
+unfoldable pub weekLate : Week
 weekLate = week 0 4 (batch 1 0 2 (recipe 3 1 ∷ []) ∷ batch 2 0 4 (recipe 3 1 ∷ []) ∷ [])
 
 -- two minutes read, one idle, two read, two idle

@@ -29,11 +29,11 @@ use Rattle.sheet.specs.Holds.{readNumbers}
 use Rattle.sheet.proofs.OneLine.{lines-flatten}
 use Rattle.sheet.proofs.Holding.{read-holds, read-stages, sheet-naming}
 use Rattle.sheet.proofs.Demands.{read-passes, read-refusal, read-reads}
-use Rattle.report.specs.Decimal.{decimal, Numeral}
-use Rattle.report.specs.Line.{refusalLine}
+use Rattle.text.specs.Decimal.{decimal, Numeral}
+use Rattle.text.specs.Line.{refusalLine}
+use Rattle.text.proofs.Numerals.{numeral}
 use Rattle.report.specs.Report.{batchAnswer, planLines, weekLines, reportLines, reportOf, LineSays, reportFault}
 use Rattle.report.specs.Report.{ReportHolds, reportNumbers}
-use Rattle.report.proofs.Numerals.{numeral}
 use Rattle.report.proofs.Ended.{report-ones}
 use Rattle.report.proofs.Reporting.{week-refused, week-planned, planned-list, report-refused, report-read}
 use Rattle.report.proofs.Said.{counts-said, line-says}

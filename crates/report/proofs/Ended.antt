@@ -7,6 +7,7 @@ use mathlib.Core.List.{List, [], _∷_, _++_, map, append-assoc}
 use lib.Dec.{eqb, ltb}
 use borrow.Author.Tests.{ne-eqb}
 use Rattle.arrays.specs.Each.{All}
+use Rattle.arrays.specs.Text.{bytes, lineFeed, space}
 use Rattle.arrays.proofs.Cases.{cond-both}
 use Rattle.arrays.proofs.Tabulates.{tabulate-all}
 use Rattle.week.specs.declared.record.Week.{Week}
@@ -14,13 +15,12 @@ use Rattle.week.specs.declared.refusal.Refusal.{Refusal}
 use Rattle.week.specs.Refusal.{unlessRefused, answerBy}
 use Rattle.planner.specs.declared.choose.Plan.{Plan}
 use Rattle.planner.specs.Choose.{maxPicks, chooseAnswer}
-use Rattle.sheet.specs.Text.{bytes}
-use Rattle.sheet.specs.Line.{lineFeed}
 use Rattle.sheet.specs.Read.{readAnswer}
 use Rattle.sheet.proofs.OneLine.{unbroken, OneLine, unbroken-append}
+use Rattle.text.specs.Decimal.{digit, spelt, decimal}
+use Rattle.text.specs.Line.{spaced, lineOf, weekLine, refusalLine}
 use Rattle.report.specs.declared.line.BatchLine.{BatchLine}
-use Rattle.report.specs.Decimal.{digit, spelt, decimal}
-use Rattle.report.specs.Line.{space, spaced, lineOf, weekLine, totalLine, batchLine, refusalLine}
+use Rattle.report.specs.Line.{totalLine, batchLine}
 use Rattle.report.specs.Report.{batchLines, planLines, refusalLines, weekLines, reportLines}
 
 -- a number has none
@@ -61,9 +61,9 @@ line-one first fields one each =
       ended = sym (append-assoc first (spaced fields) (lineFeed ∷ []));
     }
 
-week-one : (w : Week) → OneLine (weekLine w)
+week-one : (opening closing : ℕ) → OneLine (weekLine opening closing)
 unfolding weekLine unbroken
-week-one w = line-one (bytes "week") _ refl (unbroken-numbers (w .opening ∷ w .closing ∷ []))
+week-one opening closing = line-one (bytes "week") _ refl (unbroken-numbers (opening ∷ closing ∷ []))
 
 total-one : (total changes idle : ℕ) → OneLine (totalLine total changes idle)
 unfolding totalLine unbroken
@@ -88,7 +88,7 @@ either fault lines ones = cond-both (All OneLine) (eqb (fault .number) 0) ones (
 
 plan-ones : (w : Week) (plan : Plan) → All OneLine (planLines w plan)
 unfolding planLines batchLines
-plan-ones w plan = (week-one w, (total-one _ _ _, tabulate-all OneLine _ (λ i. batch-one _) 0 (w .count)))
+plan-ones w plan = (week-one (w .opening) (w .closing), (total-one _ _ _, tabulate-all OneLine _ (λ i. batch-one _) 0 (w .count)))
 
 week-ones : (w : Week) → All OneLine (weekLines w)
 unfolding weekLines

@@ -1,7 +1,3 @@
-pub mod Putting
-pub mod Decimals
-pub mod Numerals
-pub mod Spacing
 pub mod BatchLines
 pub mod Ended
 pub mod Reporting

@@ -14,7 +14,7 @@ use Rattle.planner.specs.Choose.{maxPicks, planChoice, chooseAnswer}
 use Rattle.planner.proofs.Choosing.{fill-faultless, fills-faultless}
 use Rattle.planner.proofs.Demands.{choose-names, choose-meets}
 use Rattle.sheet.specs.Read.{readAnswer}
-use Rattle.report.specs.Line.{refusalLine}
+use Rattle.text.specs.Line.{refusalLine}
 use Rattle.report.specs.Report.{planLines, weekLines, reportLines, reportOf}
 use Rattle.report.specs.Contract.{Printable}
 use Rattle.report.proofs.Said.{minutes-long}

@@ -1,19 +1,10 @@
 -- What the report's functions ask and answer.
-use Prim.Native.Nat.{ℕ, _+_, _≤_}
-use mathlib.Core.Path.{_≡_}
-use mathlib.Core.List.{List, _++_}
-use lib.ListN.{length, take, drop}
+use Prim.Native.Nat.{ℕ, _≤_}
 use Rattle.arrays.specs.Position.{atPosition}
 use Rattle.jobs.specs.Stretches.{noStretch}
 use Rattle.week.specs.declared.record.Week.{Week}
 use Rattle.week.specs.Record.{maxBatches}
 use Rattle.planner.specs.declared.check.Checked.{Checked}
-
--- a part is put into a text at a place, the next part has its place at `end`, and all else is kept
-pub record Puts (before : List ℕ) (at : ℕ) (part after : List ℕ) (end : ℕ) : Type 0 where
-  pub next : end ≡ at + length part
-  pub room : end ≤ length before
-  pub text : after ≡ take at before ++ (part ++ drop end before)
 
 -- a list and its stretches whose lines can be made: each batch has a place, and a stretch that starts no later than it ends
 pub record Printable (w : Week) (checked : Checked) : Type 0 where

@@ -6,6 +6,7 @@ use mathlib.Core.Bool.{true}
 use mathlib.Core.List.{List, [], _∷_, flatten}
 use Rattle.arrays.specs.Each.{someBelow}
 use Rattle.arrays.specs.Example.{Example, _is_, same, agree}
+use Rattle.arrays.specs.Text.{bytes}
 use Rattle.jobs.specs.Rule.{stretchOf, fits, nextBound}
 use Rattle.jobs.specs.Best.{best}
 use Rattle.edf.specs.Run.{entries, minutesLeft, firstPending, logOf, idle, changesAfter, changes, upToLast, outcomeOf}
@@ -17,14 +18,14 @@ use Rattle.judge.specs.BatchFault.{costFault, worthFault}
 use Rattle.planner.specs.Check.{ruleFault, checkFault, passed, refusedCheck, checkAnswer}
 use Rattle.planner.specs.Choose.{tableFault, chooseFault, refusedPlan, planOf, chooseAnswer}
 use Rattle.planner.specs.Run.{logFault, runFault, weekLog, logAnswer, refusedRun, runAnswer}
-use Rattle.sheet.specs.Text.{bytes}
 use Rattle.sheet.specs.Hex.{isDigit, digitOf, byteAt, wordAt}
 use Rattle.sheet.specs.Frame.{isWeek, isBatch, frameOf}
 use Rattle.sheet.specs.Fault.{sizeFault, frameFault, lineFault, linesFault}
 use Rattle.sheet.specs.List.{batchFrom, weekFrom}
 use Rattle.sheet.specs.Read.{readFault, refusedReading, readAnswer}
-use Rattle.report.specs.Decimal.{spelt, decimal}
-use Rattle.report.specs.Line.{spaced, weekLine, totalLine, batchLine, refusalLine}
+use Rattle.text.specs.Decimal.{spelt, decimal}
+use Rattle.text.specs.Line.{spaced, weekLine, refusalLine}
+use Rattle.report.specs.Line.{totalLine, batchLine}
 use Rattle.report.specs.Report.{batchAnswer, batchLines, planLines, weekLines, reportLines, reportOf}
 
 -- a sheet is reported as a text

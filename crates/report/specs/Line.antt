@@ -1,32 +1,11 @@
 -- The lines of a report: document 01, "The sheet".
 use Prim.Native.Nat.{ℕ, _+_, _*_}
-use mathlib.Core.List.{List, [], _∷_, _++_, map}
-use Rattle.week.specs.declared.record.Week.{Week}
-use Rattle.week.specs.declared.refusal.Refusal.{Refusal}
+use mathlib.Core.List.{List, [], _∷_, map}
+use Rattle.arrays.specs.Text.{bytes}
 use Rattle.week.specs.Record.{maxBatches}
-use Rattle.sheet.specs.Text.{bytes}
-use Rattle.sheet.specs.Line.{lineFeed}
+use Rattle.text.specs.Decimal.{decimal}
+use Rattle.text.specs.Line.{lineOf, weekWidth}
 use Rattle.report.specs.declared.line.BatchLine.{BatchLine}
-use Rattle.report.specs.Decimal.{decimal}
-
-abbrev pub space : ℕ
-space = 32
-
--- fields, each after a space
-unfoldable pub spaced : List (List ℕ) → List ℕ
-spaced [] = []
-spaced (field ∷ fields) = (space ∷ field) ++ spaced fields
-
--- "Every line ends with a line feed.": what follows the first field, and the whole
-abbrev pub restOf : List (List ℕ) → List ℕ
-restOf fields = spaced fields ++ (lineFeed ∷ [])
-
-abbrev pub lineOf : List ℕ → List (List ℕ) → List ℕ
-lineOf first fields = first ++ restOf fields
-
--- "week 0 100": "Line 1 is t and c."
-unfoldable pub weekLine : Week → List ℕ
-weekLine w = lineOf (bytes "week") (map decimal (w .opening ∷ w .closing ∷ []))
 
 -- "total 22 changes 4 idle 10"
 unfoldable pub totalLine : (total changes idle : ℕ) → List ℕ
@@ -37,15 +16,7 @@ totalLine total changes idle =
 unfoldable pub batchLine : BatchLine → List ℕ
 batchLine b = lineOf (decimal (b .number)) (map decimal (b .recipe ∷ b .cost ∷ b .start ∷ b .end ∷ b .finish ∷ []))
 
--- "refused 17 1 0": "A refusal writes one line only, "refused" and its three numbers"
-unfoldable pub refusalLine : Refusal → List ℕ
-refusalLine r = lineOf (bytes "refused") (map decimal (r .number ∷ r .place ∷ r .recipe ∷ []))
-
--- the widest line of each kind, its line feed counted: `week 65535 65535`; `total 4294967295 changes 65535 idle 65535`; six numbers
--- of five digits
-abbrev pub weekWidth : ℕ
-weekWidth = 17
-
+-- the widest line of each kind, its line feed counted: `total 4294967295 changes 65535 idle 65535`; six numbers of five digits
 abbrev pub totalWidth : ℕ
 totalWidth = 42
 

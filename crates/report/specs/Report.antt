@@ -24,9 +24,10 @@ use Rattle.planner.specs.Run.{setAside, weekLog, runAnswer, outcomeSaid}
 use Rattle.sheet.specs.List.{sheetWeek}
 use Rattle.sheet.specs.Read.{readFaults, readAnswer}
 use Rattle.sheet.specs.Holds.{ReadHolds, readNumbers}
+use Rattle.text.specs.Line.{weekLine, refusalLine}
 use Rattle.report.specs.declared.ReportText.{ReportText}
 use Rattle.report.specs.declared.line.BatchLine.{BatchLine}
-use Rattle.report.specs.Line.{weekLine, totalLine, batchLine, refusalLine, maxText}
+use Rattle.report.specs.Line.{totalLine, batchLine, maxText}
 
 -- "finish (0 if set aside)". No batch of a plan is unfinished: `report-says`.
 abbrev pub finishOf : Outcome → ℕ
@@ -57,7 +58,7 @@ unfoldable pub planLines : Week → Plan → List (List ℕ)
 planLines w plan =
     let checked = checkAnswer w (planChoice w plan) in
     let ran = runAnswer w (planChoice w plan) maxMinutes in
-    weekLine w ∷ totalLine (plan .total) (ran .changes) (ran .idle) ∷ batchLines w plan checked ran (w .count)
+    weekLine (w .opening) (w .closing) ∷ totalLine (plan .total) (ran .changes) (ran .idle) ∷ batchLines w plan checked ran (w .count)
 
 -- of a refusal: one line only
 abbrev pub refusalLines : Refusal → List (List ℕ)

@@ -1,19 +1,18 @@
 // What the desk's program writes for a sheet: its plan, or the refusal, as text.
 mod line;
 mod plan;
-mod text;
 
 use crate::line::MAX_TEXT;
-use crate::line::refusal_line;
 use crate::plan::week_text;
 use sheet::read::read;
+use text::line::refusal_line;
 ghost use mathlib.Core.Path.{_≡_};
 ghost use Prim.Native.Nat.{_≤_};
 ghost use lib.ListN.{length};
 ghost use Rattle.io.specs.Counts.{Counts};
+ghost use Rattle.text.specs.Contract.{Puts};
 ghost use Rattle.report.specs.Line.{maxText};
 ghost use Rattle.report.specs.Report.{reportOf, reportAnswer};
-ghost use Rattle.report.specs.Contract.{Puts};
 
 // A report: its text, in an array that is 0 beyond it, and how many bytes the text has.
 pub struct ReportText {
@@ -29,7 +28,7 @@ fn sheet_text(text: &mut [u8], sheet: &[u8]) -> usize
     let reading = read(sheet);
     let fault = reading.refusal;
     if fault.number != 0 {
-        return refusal_line(text, fault);
+        return refusal_line(text, 0, fault);
     }
     let week = reading.week;
     week_text(text, week)

@@ -1,21 +1,16 @@
 // The lines of a report.
-use crate::text::put;
-use crate::text::put_decimal;
-use crate::text::put_named;
-use crate::text::put_numbers;
+use text::line::WEEK_WIDTH;
+use text::line::rest;
+use text::put::put;
+use text::put::put_decimal;
+use text::put::put_named;
 use week::record::Week;
-use week::refusal::Refusal;
 ghost use Prim.Native.Nat.{_+_, _≤_};
-ghost use mathlib.Core.List.{map};
 ghost use lib.ListN.{length};
-ghost use Rattle.report.specs.Decimal.{decimal};
-ghost use Rattle.report.specs.Line.{restOf, weekLine, totalLine, batchLine, refusalLine, weekWidth, totalWidth, batchWidth, maxText};
-ghost use Rattle.report.specs.Contract.{Puts};
+ghost use Rattle.text.specs.Contract.{Puts};
+ghost use Rattle.report.specs.Line.{totalLine, batchLine, totalWidth, batchWidth};
 
-// The widest line of each kind, its line feed counted: `week 65535 65535`, `total 4294967295 changes 65535 idle 65535` and six numbers
-// of five digits.
-const WEEK_WIDTH: usize = 17;
-
+// The widest line of each kind, its line feed counted: `total 4294967295 changes 65535 idle 65535`, and six numbers of five digits.
 const TOTAL_WIDTH: usize = 42;
 
 const BATCH_WIDTH: usize = 36;
@@ -32,26 +27,6 @@ pub(crate) struct BatchLine {
     pub start: u16,
     pub end: u16,
     pub finish: u16,
-}
-
-// What follows the first field of a line: numbers, and the line feed.
-fn rest(text: &mut [u8], at: usize, numbers: &[u64]) -> usize
-    requires { ⌜ at + length (restOf (map decimal (now numbers))) ≤ length (now text) ⌝ }
-    ensures { λ end. ⌜ Puts (now (text .entry)) at (restOf (map decimal (now (numbers .entry)))) (now (text .exit)) end ⌝ }
-{
-    let last = put_numbers(&mut *text, at, numbers);
-    put(text, last, b"\n")
-}
-
-// The first line. Document 01: "Line 1 is t and c."
-pub(crate) fn week_line(text: &mut [u8], week: Week) -> usize
-    requires { ⌜ maxText ≤ length (now text) ⌝ }
-    ensures line { λ end. ⌜ Puts (now (text .entry)) 0 (weekLine week) (now (text .exit)) end ⌝ }
-    ensures width { λ end. ⌜ end ≤ weekWidth ⌝ }
-{
-    let numbers = [week.opening as u64, week.closing as u64];
-    let end = put(&mut *text, 0, b"week");
-    rest(text, end, &numbers)
 }
 
 // The second line, as "total 22 changes 4 idle 10".
@@ -80,19 +55,5 @@ pub(crate) fn batch_line(text: &mut [u8], at: usize, line: BatchLine) -> usize
         line.finish as u64,
     ];
     let end = put_decimal(&mut *text, at, line.number as u64);
-    rest(text, end, &numbers)
-}
-
-// The one line of a refusal. Document 01: "A refusal writes one line only, "refused" and its three numbers".
-pub(crate) fn refusal_line(text: &mut [u8], refusal: Refusal) -> usize
-    requires { ⌜ maxText ≤ length (now text) ⌝ }
-    ensures { λ end. ⌜ Puts (now (text .entry)) 0 (refusalLine refusal) (now (text .exit)) end ⌝ }
-{
-    let numbers = [
-        refusal.number as u64,
-        refusal.place as u64,
-        refusal.recipe as u64,
-    ];
-    let end = put(&mut *text, 0, b"refused");
     rest(text, end, &numbers)
 }

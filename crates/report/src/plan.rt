@@ -1,9 +1,7 @@
 // The report of a list: its best plan, the stretches that the rule gives it, and the station's run of it.
 use crate::line::BatchLine;
 use crate::line::batch_line;
-use crate::line::refusal_line;
 use crate::line::total_line;
-use crate::line::week_line;
 use edf::outcome::Outcome;
 use planner::check::Checked;
 use planner::check::check;
@@ -11,6 +9,8 @@ use planner::choose::Plan;
 use planner::own_memory::choose_week;
 use planner::own_memory::run_week;
 use planner::run::WeekRun;
+use text::line::refusal_line;
+use text::line::week_line;
 use week::record::Week;
 ghost use mathlib.Core.Path.{_≡_};
 ghost use mathlib.Core.List.{flatten};
@@ -18,9 +18,10 @@ ghost use Prim.Native.Nat.{suc, _+_, _*_, _≤_, _<_};
 ghost use lib.ListN.{length};
 ghost use Rattle.planner.specs.Check.{checkAnswer};
 ghost use Rattle.planner.specs.Choose.{planChoice};
+ghost use Rattle.text.specs.Contract.{Puts};
 ghost use Rattle.report.specs.Line.{batchWidth, maxText};
 ghost use Rattle.report.specs.Report.{finishOf, batchAnswer, batchLines, planLines, weekLines};
-ghost use Rattle.report.specs.Contract.{Puts, Printable};
+ghost use Rattle.report.specs.Contract.{Printable};
 
 // Document 01: "finish (0 if set aside)". No batch of a plan is unfinished.
 fn finish_of(outcome: Outcome) -> u16
@@ -84,7 +85,7 @@ fn plan_text(text: &mut [u8], week: Week, plan: Plan) -> usize
     let n = week.count;
     let checked = check(week, &choice[0..n]);
     let ran = run_week(week, &choice[0..n]);
-    let mut end = week_line(&mut *text, week);
+    let mut end = week_line(&mut *text, 0, week.opening, week.closing);
     end = total_line(&mut *text, end, plan.total, ran.changes, ran.idle);
     batch_lines(text, end, week, plan, checked, ran)
 }
@@ -97,7 +98,7 @@ pub(crate) fn week_text(text: &mut [u8], week: Week) -> usize
     let plan = choose_week(week);
     let fault = plan.refusal;
     if fault.number != 0 {
-        return refusal_line(text, fault);
+        return refusal_line(text, 0, fault);
     }
     plan_text(text, week, plan)
 }

@@ -10,8 +10,9 @@ use lib.ListN.{length, getD, drop, length-drop, drop-of-length-le}
 use lib.Seq.{drop-cons}
 use lib.Dec.{eqb}
 use borrow.Author.Tests.{eq-eqb, ne-eqb}
+use Rattle.arrays.specs.Text.{lineFeed}
 use Rattle.sheet.specs.Hex.{isDigit}
-use Rattle.sheet.specs.Line.{lineFeed, hexLine}
+use Rattle.sheet.specs.Line.{hexLine}
 
 module _ (line : List ℕ) (i : ℕ) where
   -- a line that is over has no line feed

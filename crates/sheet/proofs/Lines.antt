@@ -8,7 +8,8 @@ use mathlib.Core.List.{List, [], _∷_}
 use lib.ListN.{length, getD, take, drop, length-drop}
 use lib.Seq.{take-all, drop-drop, drop-length, getD-drop}
 use borrow.Author.Tests.{eq-eqb, ne-eqb}
-use Rattle.sheet.specs.Line.{lineFeed, joined, linesOf}
+use Rattle.arrays.specs.Text.{lineFeed}
+use Rattle.sheet.specs.Line.{joined, linesOf}
 use Rattle.sheet.specs.Contract.{LineEnd}
 
 -- a line feed is the last byte of its line

@@ -4,7 +4,8 @@ use native.Mathlib.Decide.{ℕ-discrete}
 use native.Mathlib.Omega.{arith}
 use mathlib.Core.Path.{_≡_, refl, sym, ap, subst, _∙_}
 use mathlib.Core.List.{List, [], _∷_, flatten}
-use Rattle.sheet.specs.Line.{lineFeed, joined, linesOf, NoneEmpty, Unbroken, Ended, AreLines}
+use Rattle.arrays.specs.Text.{lineFeed}
+use Rattle.sheet.specs.Line.{joined, linesOf, NoneEmpty, Unbroken, Ended, AreLines}
 use Rattle.sheet.proofs.Lines.{lines-feed, lines-other}
 
 -- a line feed in front is a line

@@ -6,7 +6,8 @@ use mathlib.Core.List.{List, [], _∷_, _++_, flatten, append-assoc}
 use lib.Dec.{eqb}
 use borrow.Author.Tests.{not-true}
 use Rattle.arrays.specs.Each.{All}
-use Rattle.sheet.specs.Line.{lineFeed, joined, linesOf}
+use Rattle.arrays.specs.Text.{lineFeed}
+use Rattle.sheet.specs.Line.{joined, linesOf}
 
 -- no byte is a line feed
 unfoldable pub unbroken : List ℕ → Bool

@@ -7,6 +7,7 @@ use mathlib.Core.List.{List, [], _∷_, map, flatten}
 use lib.ListN.{take}
 use Rattle.arrays.specs.Each.{someBelow}
 use Rattle.arrays.specs.Example.{Example, _is_, same, agree}
+use Rattle.arrays.specs.Text.{bytes}
 use Rattle.week.specs.declared.record.Recipe.{Recipe}
 use Rattle.week.specs.declared.record.Batch.{Batch}
 use Rattle.week.specs.Order.{before}
@@ -14,7 +15,6 @@ use Rattle.week.specs.Refusal.{refusedIf, orElse, firstOf, first, unlessRefused
 use Rattle.judge.specs.Fault.{weekFault, numberFault, orderFault, batchFault, listFault}
 use Rattle.judge.specs.BatchFault.{costFault, worthFault}
 use Rattle.sheet.specs.declared.read.Reading.{Reading}
-use Rattle.sheet.specs.Text.{bytes}
 use Rattle.sheet.specs.Hex.{isDigit, digitOf, byteAt, wordAt}
 use Rattle.sheet.specs.Frame.{isWeek, isBatch, frameOf}
 use Rattle.sheet.specs.Fault.{sizeFault, frameFault, lineFault, linesFault}

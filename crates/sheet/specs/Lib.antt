@@ -1,4 +1,3 @@
-pub mod Text
 pub mod Hex
 pub mod Line
 pub mod Frame

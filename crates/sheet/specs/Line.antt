@@ -5,10 +5,8 @@ use mathlib.Core.Bool.{Bool, false, cond, _&&_}
 use mathlib.Core.List.{List, [], _∷_, flatten}
 use lib.ListN.{length, getD}
 use lib.Dec.{eqb}
+use Rattle.arrays.specs.Text.{lineFeed}
 use Rattle.sheet.specs.Hex.{isDigit}
-
-abbrev pub lineFeed : ℕ
-lineFeed = 10
 
 -- b, before the first line
 abbrev pub joined : ℕ → List (List ℕ) → List (List ℕ)

@@ -24,7 +24,7 @@ worth-of : (r : Recipe) (vs : List Val) → Is (R.the-field .row) (R.the-field .
 worth-of r vs h = omega (arith, h .1 .1 .1 .0 .1)
 
 -- an array has a place for each of the most recipes, and for each of the most batches
-recipes-owned : (b : Batch) (vs : List Val) → Is (B.the-field .row) (B.the-field .into b) vs → length (b .recipes) ≡ maxRecipes
+pub recipes-owned : (b : Batch) (vs : List Val) → Is (B.the-field .row) (B.the-field .into b) vs → length (b .recipes) ≡ maxRecipes
 recipes-owned b vs h = sym (length-map (b .recipes) (R.the-field .into)) ∙ h .1 .1 .1 .1 .1 .1 .0 .1 .0 .1
 
 pub batches-owned : (w : Week) (vs : List Val) → Is (W.the-row) w vs → length (w .batches) ≡ maxBatches

@@ -4,8 +4,8 @@ use native.Mathlib.Omega.{arith}
 use Prim.Native.Nat.{ℕ}
 use mathlib.Core.Path.{ap₂}
 use mathlib.Core.List.{List}
+use Rattle.text.proofs.Putting.{puts-padded, puts-counts}
 use Rattle.report.specs.Line.{maxText}
-use Rattle.report.proofs.Putting.{puts-padded, puts-counts}
 use Rattle.report.proofs.report.Statement.{statement}
 use Rattle.report.proofs.report.Tie as tie
 

@@ -4,12 +4,13 @@ use native.Mathlib.Omega.{arith}
 use Prim.Native.Nat.{ℕ, _≤_}
 use mathlib.Core.List.{List, [], _∷_, map}
 use lib.ListN.{length}
+use Rattle.text.specs.Decimal.{decimal}
+use Rattle.text.specs.Line.{restOf}
+use Rattle.text.proofs.Decimals.{decimal-short}
+use Rattle.text.proofs.Putting.{puts-length, puts-then}
+use Rattle.text.proofs.Spacing.{rest-short}
 use Rattle.report.specs.declared.line.BatchLine.{BatchLine}
-use Rattle.report.specs.Decimal.{decimal}
-use Rattle.report.specs.Line.{restOf, batchLine}
-use Rattle.report.proofs.Decimals.{decimal-short}
-use Rattle.report.proofs.Putting.{puts-length, puts-then}
-use Rattle.report.proofs.Spacing.{rest-short}
+use Rattle.report.specs.Line.{batchLine}
 use Rattle.report.proofs.line.batch_line.Statement.{statement}
 use Rattle.report.proofs.line.batch_line.Tie as tie
 

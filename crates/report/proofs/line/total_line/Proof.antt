@@ -5,13 +5,12 @@ use Prim.Native.Nat.{ℕ, _≤_}
 use mathlib.Core.Path.{_≡_}
 use mathlib.Core.List.{List, [], _∷_, _++_}
 use lib.ListN.{length}
-use Rattle.sheet.specs.Text.{bytes}
-use Rattle.sheet.specs.Line.{lineFeed}
-use Rattle.report.specs.Decimal.{decimal}
-use Rattle.report.specs.Line.{space, totalLine}
-use Rattle.report.proofs.Decimals.{decimal-short}
-use Rattle.report.proofs.Putting.{puts-length, puts-then}
-use Rattle.report.proofs.Spacing.{rest-more, rest-none}
+use Rattle.arrays.specs.Text.{bytes, lineFeed, space}
+use Rattle.text.specs.Decimal.{decimal}
+use Rattle.text.proofs.Decimals.{decimal-short}
+use Rattle.text.proofs.Putting.{puts-length, puts-then}
+use Rattle.text.proofs.Spacing.{rest-more, rest-none}
+use Rattle.report.specs.Line.{totalLine}
 use Rattle.report.proofs.line.total_line.Statement.{statement}
 use Rattle.report.proofs.line.total_line.Tie as tie
 

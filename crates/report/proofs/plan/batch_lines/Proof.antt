@@ -5,10 +5,10 @@ use Prim.Native.Nat.{_+_, _-_, _*_, _≤_}
 use mathlib.Core.Path.{_≡_, refl, _∙_}
 use mathlib.Core.List.{flatten}
 use lib.ListN.{length}
+use Rattle.text.specs.Contract.{Puts}
+use Rattle.text.proofs.Putting.{puts-nothing, puts-length, puts-then}
 use Rattle.report.specs.Line.{batchWidth}
 use Rattle.report.specs.Report.{batchLines}
-use Rattle.report.specs.Contract.{Puts}
-use Rattle.report.proofs.Putting.{puts-nothing, puts-length, puts-then}
 use Rattle.report.proofs.BatchLines.{lines-more}
 use Rattle.report.proofs.plan.batch_lines.Statement.{statement}
 use Rattle.report.proofs.plan.batch_lines.Tie as tie

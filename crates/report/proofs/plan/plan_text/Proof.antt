@@ -9,8 +9,8 @@ use Rattle.week.specs.Record.{maxBatches, maxMinutes}
 use Rattle.planner.specs.Check.{checkAnswer}
 use Rattle.planner.specs.Choose.{planChoice}
 use Rattle.planner.specs.Run.{runAnswer}
+use Rattle.text.proofs.Putting.{puts-length, puts-then}
 use Rattle.report.specs.Report.{planLines}
-use Rattle.report.proofs.Putting.{puts-length, puts-then}
 use Rattle.report.proofs.plan.plan_text.Statement.{statement}
 use Rattle.report.proofs.plan.plan_text.Tie as tie
 

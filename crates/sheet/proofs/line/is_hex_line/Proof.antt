@@ -6,7 +6,8 @@ use lib.ListN.{length, getD, drop}
 use lib.Dec.{eqb}
 use borrow.Author.Needs.{needs}
 use borrow.Author.Tests.{eq-eqb, ne-eqb, not-true, not-false}
-use Rattle.sheet.specs.Line.{lineFeed, hexLine}
+use Rattle.arrays.specs.Text.{lineFeed}
+use Rattle.sheet.specs.Line.{hexLine}
 use Rattle.sheet.proofs.HexLines.{hex-over, hex-digit, hex-other}
 use Rattle.sheet.proofs.line.is_hex_line.Statement.{statement}
 use Rattle.sheet.proofs.line.is_hex_line.Tie as tie

@@ -5,13 +5,13 @@ use Prim.Native.Nat.{_+_}
 use mathlib.Core.Path.{_≡_}
 use mathlib.Core.List.{[], _∷_, map}
 use lib.ListN.{length, length-append}
-use Rattle.sheet.specs.Line.{lineFeed}
-use Rattle.report.specs.Decimal.{decimal}
-use Rattle.report.specs.Line.{restOf}
-use Rattle.report.proofs.Putting.{puts-length, puts-then}
-use Rattle.report.proofs.Spacing.{numbers}
-use Rattle.report.proofs.line.rest.Statement.{statement}
-use Rattle.report.proofs.line.rest.Tie as tie
+use Rattle.arrays.specs.Text.{lineFeed}
+use Rattle.text.specs.Decimal.{decimal}
+use Rattle.text.specs.Line.{restOf}
+use Rattle.text.proofs.Putting.{puts-length, puts-then}
+use Rattle.text.proofs.Spacing.{numbers}
+use Rattle.text.proofs.line.rest.Statement.{statement}
+use Rattle.text.proofs.line.rest.Tie as tie
 
 abbrev start : tie.After-put-numbers → tie.Start
 start c = c .before .before .before .before

@@ -7,8 +7,8 @@ use mathlib.Core.Path.{_≡_, refl, sym, _∙_}
 use mathlib.Core.List.{List, [], _∷_, _++_}
 use lib.ListN.{length, getD, length-append, List·getD-append}
 use lib.Seq.{getD-append-seam}
-use Rattle.report.specs.Decimal.{digit, decimal, valueAfter, Numeral}
-use Rattle.report.proofs.Decimals.{last, fewer, decimal-one, decimal-more}
+use Rattle.text.specs.Decimal.{digit, decimal, valueAfter, Numeral}
+use Rattle.text.proofs.Decimals.{last, fewer, decimal-one, decimal-more}
 
 -- one digit more
 value-more : (a : ℕ) (ds : List ℕ) (d : ℕ) → valueAfter a (ds ++ (d ∷ [])) ≡ valueAfter a ds * 10 + (d - digit 0)

@@ -4,25 +4,19 @@ use native.Mathlib.Omega.{arith}
 use Prim.Native.Nat.{_≤_}
 use mathlib.Core.List.{[], _∷_, map}
 use lib.ListN.{length}
-use Rattle.report.specs.Decimal.{decimal}
-use Rattle.report.specs.Line.{restOf, weekLine}
-use Rattle.report.proofs.Putting.{puts-length, puts-then}
-use Rattle.report.proofs.Spacing.{rest-short}
-use Rattle.report.proofs.line.week_line.Statement.{statement}
-use Rattle.report.proofs.line.week_line.Tie as tie
+use Rattle.text.specs.Decimal.{decimal}
+use Rattle.text.specs.Line.{restOf, weekLine}
+use Rattle.text.proofs.Putting.{puts-length, puts-then}
+use Rattle.text.proofs.Spacing.{rest-short}
+use Rattle.text.proofs.line.week_line.Statement.{statement}
+use Rattle.text.proofs.line.week_line.Tie as tie
 
 abbrev start : tie.After-put → tie.Start
-start c = c .before .before .before .before .before .before
+start c = c .before .before .before .before
 
 -- two numbers of five digits, and the line feed
-short : (c : tie.Start) → length (restOf (map decimal (c .args .week .opening ∷ c .args .week .closing ∷ []))) ≤ 13
-short c = rest-short 4 (c .args .week .opening ∷ c .args .week .closing ∷ []) (search needs)
-
-cast-t6 : tie.Need-cast-t6
-cast-t6 c = search needs
-
-cast-t7 : tie.Need-cast-t7
-cast-t7 c = search needs
+short : (c : tie.Start) → length (restOf (map decimal (c .args .opening ∷ c .args .closing ∷ []))) ≤ 13
+short c = rest-short 4 (c .args .opening ∷ c .args .closing ∷ []) (search needs)
 
 slice-aggregate-put : tie.Need-slice-aggregate-put
 slice-aggregate-put c = search needs
@@ -54,8 +48,6 @@ pub week-line-spec : {M : Type 1} → statement M
 week-line-spec =
     tie.close
     (tie.spec
-    cast-t6
-    cast-t7
     slice-aggregate-put
     put-requires
     slice-aggregate-rest

@@ -7,9 +7,9 @@ use mathlib.Core.Path.{_≡_, refl}
 use mathlib.Core.List.{append-assoc}
 use lib.ListN.{length, take, drop}
 use lib.Seq.{paste, paste-zero, paste-suc, length-paste, take-length}
-use Rattle.report.specs.Contract.{Puts}
-use Rattle.report.proofs.text.put.Statement.{statement}
-use Rattle.report.proofs.text.put.Tie as tie
+use Rattle.text.specs.Contract.{Puts}
+use Rattle.text.proofs.put.put.Statement.{statement}
+use Rattle.text.proofs.put.put.Tie as tie
 
 abbrev Inv-loop : tie.InvT-loop
 Inv-loop text₀ at part i₀ i-end text i =
@@ -44,7 +44,8 @@ loop-again c =
     let room : args .at + turn .i < length (args .text .now) = search needs in
     let step = paste-suc (args .text .now) (args .at) (args .part .now) (turn .i) 0 room more in (
       omega arith,
-      rw (turn .inv .2, step, ← add-one (turn .i)) (length-paste (args .text .now) (args .at) (args .part .now) (turn .i + 1) (omega arith) (omega arith)),
+      rw (turn .inv .2, step, ← add-one (turn .i))
+          (length-paste (args .text .now) (args .at) (args .part .now) (turn .i + 1) (omega arith) (omega arith)),
       rw (turn .inv .2, add-one (turn .i)) step,
     )
 

@@ -1,8 +1,8 @@
 -- `put_number` meets its contract: a space, and the digits after it.
 use borrow.Author.Needs.{needs}
-use Rattle.report.proofs.Putting.{puts-then}
-use Rattle.report.proofs.text.put_number.Statement.{statement}
-use Rattle.report.proofs.text.put_number.Tie as tie
+use Rattle.text.proofs.Putting.{puts-then}
+use Rattle.text.proofs.put.put_number.Statement.{statement}
+use Rattle.text.proofs.put.put_number.Tie as tie
 
 slice-aggregate-put : tie.Need-slice-aggregate-put
 slice-aggregate-put c = search needs

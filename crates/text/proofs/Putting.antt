@@ -9,7 +9,7 @@ use Rattle.io.specs.Counts.{Counts}
 use Rattle.io.proofs.Counting.{counts}
 use Rattle.arrays.specs.Made.{padded}
 use Rattle.arrays.proofs.Places.{drop-replicate}
-use Rattle.report.specs.Contract.{Puts}
+use Rattle.text.specs.Contract.{Puts}
 
 -- nothing
 pub puts-nothing : (text : List ℕ) (at : ℕ) → at ≤ length text → Puts text at [] text at

@@ -2,12 +2,13 @@
 ghost use Prim.Native.Nat.{_+_, _≤_};
 ghost use mathlib.Core.List.{_∷_, _++_, map};
 ghost use lib.ListN.{length};
-ghost use Rattle.report.specs.Decimal.{decimal};
-ghost use Rattle.report.specs.Line.{space, spaced};
-ghost use Rattle.report.specs.Contract.{Puts};
+ghost use Rattle.arrays.specs.Text.{space};
+ghost use Rattle.text.specs.Decimal.{decimal};
+ghost use Rattle.text.specs.Line.{spaced};
+ghost use Rattle.text.specs.Contract.{Puts};
 
 // The bytes of a part.
-pub(crate) fn put(text: &mut [u8], at: usize, part: &[u8]) -> usize
+pub fn put(text: &mut [u8], at: usize, part: &[u8]) -> usize
     requires { ⌜ at + length (now part) ≤ length (now text) ⌝ }
     ensures { λ end. ⌜ Puts (now (text .entry)) at (now (part .entry)) (now (text .exit)) end ⌝ }
 {
@@ -18,7 +19,7 @@ pub(crate) fn put(text: &mut [u8], at: usize, part: &[u8]) -> usize
 }
 
 // A number in decimal.
-pub(crate) fn put_decimal(text: &mut [u8], at: usize, n: u64) -> usize
+pub fn put_decimal(text: &mut [u8], at: usize, n: u64) -> usize
     requires { ⌜ at + length (decimal n) ≤ length (now text) ⌝ }
     ensures { λ end. ⌜ Puts (now (text .entry)) at (decimal n) (now (text .exit)) end ⌝ }
 {
@@ -37,7 +38,7 @@ fn put_number(text: &mut [u8], at: usize, n: u64) -> usize
 }
 
 // A word, and a number after it.
-pub(crate) fn put_named(text: &mut [u8], at: usize, word: &[u8], n: u64) -> usize
+pub fn put_named(text: &mut [u8], at: usize, word: &[u8], n: u64) -> usize
     requires { ⌜ at + length (now word ++ (space ∷ decimal n)) ≤ length (now text) ⌝ }
     ensures { λ end. ⌜ Puts (now (text .entry)) at (now (word .entry) ++ (space ∷ decimal n)) (now (text .exit)) end ⌝ }
 {
@@ -46,7 +47,7 @@ pub(crate) fn put_named(text: &mut [u8], at: usize, word: &[u8], n: u64) -> usiz
 }
 
 // Numbers, each after a space.
-pub(crate) fn put_numbers(text: &mut [u8], at: usize, numbers: &[u64]) -> usize
+pub fn put_numbers(text: &mut [u8], at: usize, numbers: &[u64]) -> usize
     requires { ⌜ at + length (spaced (map decimal (now numbers))) ≤ length (now text) ⌝ }
     ensures { λ end. ⌜ Puts (now (text .entry)) at (spaced (map decimal (now (numbers .entry)))) (now (text .exit)) end ⌝ }
 {

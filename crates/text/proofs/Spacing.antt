@@ -6,21 +6,21 @@ use mathlib.Core.Path.{_≡_, refl, sym, ap, _∙_}
 use mathlib.Core.List.{List, [], _∷_, _++_, map, map-append, append-assoc, append-nil}
 use lib.ListN.{length, getD, take, drop, length-append, take-append-drop}
 use lib.Seq.{take-suc}
-use Rattle.report.specs.Decimal.{decimal}
-use Rattle.sheet.specs.Line.{lineFeed}
-use Rattle.report.specs.Line.{space, spaced, restOf}
-use Rattle.report.proofs.Decimals.{decimal-short}
+use Rattle.arrays.specs.Text.{lineFeed, space}
+use Rattle.text.specs.Decimal.{decimal}
+use Rattle.text.specs.Line.{spaced, restOf}
+use Rattle.text.proofs.Decimals.{decimal-short}
 
 abbrev pub numbers : List ℕ → List ℕ
 numbers ns = spaced (map decimal ns)
 
-spaced-append : (xs ys : List (List ℕ)) → spaced (xs ++ ys) ≡ spaced xs ++ spaced ys
+pub spaced-append : (xs ys : List (List ℕ)) → spaced (xs ++ ys) ≡ spaced xs ++ spaced ys
 unfolding spaced
 spaced-append [] ys = refl
 spaced-append (x ∷ xs) ys =
     ap (λ (l : List ℕ). (space ∷ x) ++ l) (spaced-append xs ys) ∙ sym (append-assoc (space ∷ x) (spaced xs) (spaced ys))
 
-numbers-append : (xs ys : List ℕ) → numbers (xs ++ ys) ≡ numbers xs ++ numbers ys
+pub numbers-append : (xs ys : List ℕ) → numbers (xs ++ ys) ≡ numbers xs ++ numbers ys
 numbers-append xs ys = ap spaced (map-append decimal xs ys) ∙ spaced-append (map decimal xs) (map decimal ys)
 
 pub numbers-more : (ns : List ℕ) (i : ℕ) → i < length ns →

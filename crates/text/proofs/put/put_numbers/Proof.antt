@@ -6,13 +6,14 @@ use mathlib.Core.Path.{_≡_, refl, ap, _∙_}
 use mathlib.Core.List.{_∷_}
 use lib.ListN.{length, getD, take, length-append}
 use lib.Seq.{take-all}
-use Rattle.report.specs.Decimal.{decimal}
-use Rattle.report.specs.Line.{space, spaced}
-use Rattle.report.specs.Contract.{Puts}
-use Rattle.report.proofs.Putting.{puts-nothing, puts-length, puts-then}
-use Rattle.report.proofs.Spacing.{numbers, numbers-more, numbers-front}
-use Rattle.report.proofs.text.put_numbers.Statement.{statement}
-use Rattle.report.proofs.text.put_numbers.Tie as tie
+use Rattle.arrays.specs.Text.{space}
+use Rattle.text.specs.Decimal.{decimal}
+use Rattle.text.specs.Line.{spaced}
+use Rattle.text.specs.Contract.{Puts}
+use Rattle.text.proofs.Putting.{puts-nothing, puts-length, puts-then}
+use Rattle.text.proofs.Spacing.{numbers, numbers-more, numbers-front}
+use Rattle.text.proofs.put.put_numbers.Statement.{statement}
+use Rattle.text.proofs.put.put_numbers.Tie as tie
 
 abbrev Inv-loop : tie.InvT-loop
 Inv-loop text₀ at ns end₀ i₀ i-end text end i =

@@ -10,7 +10,7 @@ use lib.ListN.{length, length-append}
 use lib.Dec.{ltb}
 use borrow.Author.Tests.{lt-ltb, le-ltb, ltb-false}
 use Rattle.io.specs.Digits.{glyph, digits, Fewest}
-use Rattle.report.specs.Decimal.{digit, spelt, decimal}
+use Rattle.text.specs.Decimal.{digit, spelt, decimal}
 
 -- the last digit
 abbrev pub last : ℕ → List ℕ

@@ -5,11 +5,11 @@ use Prim.Native.Nat.{_+_}
 use mathlib.Core.Path.{_≡_}
 use mathlib.Core.List.{_∷_, _++_}
 use lib.ListN.{length, length-append}
-use Rattle.report.specs.Decimal.{decimal}
-use Rattle.report.specs.Line.{space}
-use Rattle.report.proofs.Putting.{puts-length, puts-then}
-use Rattle.report.proofs.text.put_named.Statement.{statement}
-use Rattle.report.proofs.text.put_named.Tie as tie
+use Rattle.arrays.specs.Text.{space}
+use Rattle.text.specs.Decimal.{decimal}
+use Rattle.text.proofs.Putting.{puts-length, puts-then}
+use Rattle.text.proofs.put.put_named.Statement.{statement}
+use Rattle.text.proofs.put.put_named.Tie as tie
 
 -- the bytes of the two
 whole : (c : tie.Start) →

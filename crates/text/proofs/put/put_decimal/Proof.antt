@@ -4,10 +4,10 @@ use native.Mathlib.Omega.{arith}
 use Prim.Native.Nat.{_-_}
 use mathlib.Core.Path.{_≡_, _∙_}
 use lib.ListN.{take}
-use Rattle.report.specs.Decimal.{decimal}
-use Rattle.report.proofs.Decimals.{fewest-decimal}
-use Rattle.report.proofs.text.put_decimal.Statement.{statement}
-use Rattle.report.proofs.text.put_decimal.Tie as tie
+use Rattle.text.specs.Decimal.{decimal}
+use Rattle.text.proofs.Decimals.{fewest-decimal}
+use Rattle.text.proofs.put.put_decimal.Statement.{statement}
+use Rattle.text.proofs.put.put_decimal.Tie as tie
 
 abbrev start : tie.After-decimal → tie.Start
 start c = c .before .before .before
