@@ -1,0 +1,4 @@
+pub mod Line
+pub mod Answer
+pub mod Contract
+pub mod Examples

@@ -1,0 +1,6 @@
+pub mod Same
+pub mod Names
+pub mod Lending
+pub mod Choices
+pub mod Shows
+pub mod Lines

@@ -1,0 +1,4 @@
+pub mod Kept
+pub mod Owned
+pub mod Printed
+pub mod Framed

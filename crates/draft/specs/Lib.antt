@@ -1,0 +1,4 @@
+pub mod Record
+pub mod List
+pub mod Sheet
+pub mod Examples

@@ -1,0 +1,4 @@
+pub mod Size
+pub mod Shown
+pub mod Contract
+pub mod Examples
