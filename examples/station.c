@@ -1,7 +1,7 @@
 /*
  * station SHEET: chooses the recipes of the week that the file SHEET holds, and prints the total and
  * the recipe of the batch at each position, or the refusal in words. The exit status is 0 for a plan,
- * 1 for a refusal, 2 for a usage or file error.
+ * 1 for a refusal, 2 for a usage or file error, or an answer that cannot be written.
  */
 #include <stdio.h>
 
@@ -87,11 +87,20 @@ static int plan(const uint8_t *sheet, size_t len)
     return PLANNED;
 }
 
+/* Returns 0, or -1 if a part of what was printed could not be written, as a full disk may first show here. */
+static int close_output(void)
+{
+    int failed = ferror(stdout);
+
+    return fclose(stdout) != 0 || failed ? -1 : 0;
+}
+
 int main(int argc, char **argv)
 {
     /* One byte more than the longest sheet, so that the call sees that a longer one is too long. */
     static uint8_t sheet[WEEKPLAN_MAX_SHEET + 1];
     size_t len;
+    int status;
 
     if (argc != 2) {
         fprintf(stderr, "usage: station SHEET\n");
@@ -101,5 +110,10 @@ int main(int argc, char **argv)
         perror(argv[1]);
         return FAILED;
     }
-    return plan(sheet, len);
+    status = plan(sheet, len);
+    if (close_output() != 0) {
+        fprintf(stderr, "station: the answer could not be written\n");
+        return FAILED;
+    }
+    return status;
 }

@@ -19,5 +19,10 @@ fn main() {
     let text = report(&sheet[0..len]);
     let bytes = text.bytes;
     let end = text.len;
-    io::write_all(STDOUT_FILENO, &bytes[0..end]);
+    if !io::write_all(STDOUT_FILENO, &bytes[0..end]) {
+        io::write_all(
+            STDERR_FILENO,
+            b"weekplan: the report could not be written\n",
+        );
+    }
 }
