@@ -1,6 +1,6 @@
 //! Damage to the bytes of a sheet: document 01, "The sheet". Each kind takes any sheet, one that is damaged already too.
 
-use crate::chance::Chance;
+use drawn::Chance;
 
 type Kind = fn(&mut Chance, &mut Vec<u8>);
 

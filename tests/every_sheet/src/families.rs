@@ -1,15 +1,18 @@
 //! The families of sheets that are compared.
 
-use crate::chance::Chance;
 use crate::session::Session;
-use crate::weeks::{week, Shape};
-use crate::{damage, examples, faults, tiny};
+use crate::{corners, damage, examples, tiny};
+use drawn::weeks::{week, Shape, FULL};
+use drawn::{faults, Chance};
 use reference::{write, Week};
 
 type Compare = fn(&mut Session, &mut Chance);
 
 pub const FAMILIES: [(&str, Compare); 10] = [
-    ("examples", |session, _| examples::compare(session)),
+    ("examples", |session, _| {
+        examples::compare(session);
+        corners::compare(session);
+    }),
     ("tiny, any batch", |session, _| tiny::any_batch(session)),
     ("tiny, two batches", |session, _| {
         tiny::any_two_batches(session)
@@ -43,12 +46,6 @@ const LARGER: Shape = Shape {
     minutes: 15..=1_200,
 };
 
-const FULL: Shape = Shape {
-    batches: 16..=16,
-    recipes: 10..=10,
-    minutes: 2_391..=2_400,
-};
-
 /// Lists whose faults are put in on purpose: one batch at least.
 const LIST: Shape = Shape {
     batches: 1..=6,
@@ -65,16 +62,12 @@ fn drawn(session: &mut Session, chance: &mut Chance, shape: &Shape, sheets: usiz
     }
 }
 
-/// A fault in a list, or two where the first has left every batch a recipe.
+/// A fault in a list, or two.
 fn faulty(session: &mut Session, chance: &mut Chance) {
     for i in 0..40_000 {
         let mut week = week(chance, &LIST);
         let (table, buffer) = lent(chance, &week);
-        faults::put_in(chance, &mut week, i % 10 + 1);
-        if chance.one_in(4) && !week.batches.iter().any(|batch| batch.recipes.is_empty()) {
-            let second = chance.between(1..=10);
-            faults::put_in(chance, &mut week, second);
-        }
+        faults::put_in_one_or_two(chance, &mut week, i % 10 + 1);
         session.compare(&write(&week), table, buffer);
     }
 }

@@ -1,20 +1,18 @@
 //! The planner's call and its program against a second implementation, from document 01's text, byte for byte, over whole
 //! families of sheets. The first argument is the program's path, a second one the seed of the sheets that are drawn.
 
-mod chance;
+mod corners;
 mod damage;
 mod examples;
 mod families;
-mod faults;
 mod judge;
 mod outcome;
 mod program;
 mod session;
 mod tally;
 mod tiny;
-mod weeks;
 
-use chance::Chance;
+use drawn::Chance;
 use families::FAMILIES;
 use program::Program;
 use session::Session;

@@ -5,7 +5,7 @@ use crate::judge::{Judge, Judged};
 use crate::outcome::Outcome;
 use crate::program::Program;
 use crate::tally::{Side, Tally};
-use reference::Call;
+use reference::{refusal_told, Call};
 
 /// Every choice is tried where the whole table takes at most this many.
 const MOST_TRIES: u64 = 100_000;
@@ -163,11 +163,4 @@ impl Session {
             });
         }
     }
-}
-
-/// The number of the refusal that a text tells; 0 if it tells a plan.
-fn refusal_told(text: &str) -> usize {
-    let numbers = text.strip_prefix("refused ");
-    let number = numbers.and_then(|numbers| numbers.split(' ').next());
-    number.map_or(0, |number| number.parse().expect("a decimal number"))
 }

@@ -3,6 +3,7 @@
 use crate::list;
 use crate::plan::Plan;
 use crate::rule;
+use crate::sheet;
 use crate::week::Week;
 
 /// Document 01, "The picks table": the entry for position i and minute x "is the recipe that the best choice for batches
@@ -52,9 +53,14 @@ fn advance(week: &Week, choice: &mut [u8]) -> bool {
     false
 }
 
-/// How many choices are tried for this sheet's whole table; none if the sheet is refused before its plan is looked for.
+/// How many choices are tried for the whole table of the list on this sheet; none if the sheet or the list is refused.
 pub fn tries(sheet: &[u8]) -> Option<u64> {
-    let week = list::read(sheet).ok()?;
+    tries_of_list(&sheet::read(sheet).ok()?)
+}
+
+/// How many choices are tried for this list's whole table; none if the list is refused.
+pub fn tries_of_list(week: &Week) -> Option<u64> {
+    list::judge(week).ok()?;
     let mut choices = 1u64;
     let mut tries = 0u64;
     for batch in &week.batches {

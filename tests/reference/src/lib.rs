@@ -1,10 +1,11 @@
-//! The call of the planner and the text of its program a second time, from document 01: three ways to find the best plan
-//! under one reading of the sheet.
+//! The planner a second time, from document 01: the operations over a list, the call and the text of its program over a
+//! sheet, and three ways to find the best plan.
 
 mod call;
 mod every_choice;
 mod frame;
 mod list;
+mod operation;
 mod plan;
 mod recursion;
 mod refusal;
@@ -15,7 +16,13 @@ mod same_loops;
 mod sheet;
 mod week;
 
-pub use every_choice::tries;
+pub use every_choice::{plan as best_of_every_choice, tries, tries_of_list};
+pub use operation::{check, choose, run, Passed};
+pub use plan::Plan;
+pub use recursion::plan as best_by_recursion;
+pub use refusal::{refusal_told, Refusal, Refused};
+pub use rule::Stretch;
+pub use run::{Outcome, Run};
 pub use sheet::write;
 pub use week::{Batch, Recipe, Week};
 

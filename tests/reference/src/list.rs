@@ -1,5 +1,5 @@
 //! Document 01, "The desk, with a list": refusals 1 to 10, "then 1, 2, 3; then batch by batch 4 to 10, each batch
-//! whole before the next".
+//! whole before the next; then 13".
 
 use crate::refusal::{Refusal, Refused};
 use crate::sheet;
@@ -12,12 +12,22 @@ pub fn read(sheet: &[u8]) -> Result<Week, Refused> {
     Ok(week)
 }
 
-fn judge(week: &Week) -> Result<(), Refused> {
+/// Whether 1 to 10 let this list pass; it may hold any number of batches, and each of them any number of recipes.
+pub fn judge(week: &Week) -> Result<(), Refused> {
     Refusal::CloseNotAfterOpening.when(week.closing <= week.opening)?;
     Refusal::WeekTooLong.when(week.closing - week.opening > Week::MAX_MINUTES)?;
     Refusal::TooManyBatches.when(week.batches.len() > Week::MAX_BATCHES)?;
     (0..week.batches.len())
         .try_for_each(|i| judge_batch(week, i).map_err(|refused| refused.at(i + 1)))
+}
+
+/// "13: a choice whose length is not n (position 0), or that names a recipe its batch has not got (the first such
+/// position)", of a list that passed 1 to 10.
+pub fn judge_choice(week: &Week, choice: &[u8]) -> Result<(), Refused> {
+    Refusal::Choice.when(choice.len() != week.batches.len())?;
+    let mut chosen = week.batches.iter().zip(choice);
+    let missing = chosen.position(|(batch, &number)| !batch.has_recipe(number));
+    missing.map_or(Ok(()), |i| Err(Refused::from(Refusal::Choice).at(i + 1)))
 }
 
 /// The batch with index i, after the batches before it.

@@ -1,5 +1,6 @@
-//! Document 01, "Who can be refused, and why": the numbers that the call and the program can answer, each with a place and
-//! a recipe.
+//! Document 01, "Who can be refused, and why": the numbers, each with a place and a recipe.
+
+use std::fmt;
 
 #[derive(Clone, Copy, Debug)]
 pub enum Refusal {
@@ -25,8 +26,14 @@ pub enum Refusal {
     BatchOrder = 10,
     /// "picks table shorter than n × (c − t + 1), n being the batches."
     ShortPicks = 11,
+    /// "log shorter than c − t."
+    ShortLog = 12,
+    /// "a choice whose length is not n (position 0), or that names a recipe its batch has not got".
+    Choice = 13,
     /// "no choice meets the rule (Choose)."
     NoPlan = 14,
+    /// "the choice breaks it (Check)".
+    RuleBroken = 15,
     /// "a line that is no frame, or has no line feed."
     NoFrame = 16,
     /// "the first line is missing or is no week, or a later one is a week."
@@ -68,7 +75,7 @@ pub struct Refused {
 }
 
 impl Refused {
-    /// "The place is the batch's position for 4 to 10 .., the line from 1 for 16 and 17 .., else 0."
+    /// "The place is the batch's position for 4 to 10, 13, 15 .., the line from 1 for 16 and 17 .., else 0."
     pub fn at(self, place: usize) -> Refused {
         Refused { place, ..self }
     }
@@ -82,4 +89,19 @@ impl From<Refusal> for Refused {
             recipe: 0,
         }
     }
+}
+
+/// The word and the three numbers, without a line feed: `refused 17 1 0`.
+impl fmt::Display for Refused {
+    fn fmt(&self, text: &mut fmt::Formatter) -> fmt::Result {
+        let number = self.refusal as u8;
+        write!(text, "refused {number} {} {}", self.place, self.recipe)
+    }
+}
+
+/// The number of the refusal that a text tells in this form; 0 if it tells none.
+pub fn refusal_told(text: &str) -> usize {
+    let numbers = text.strip_prefix("refused ");
+    let number = numbers.and_then(|numbers| numbers.split(' ').next());
+    number.map_or(0, |number| number.parse().expect("a decimal number"))
 }

@@ -5,21 +5,16 @@ use crate::plan::Plan;
 use crate::recursion;
 use crate::refusal::{Refusal, Refused};
 use crate::rule::{self, Stretch};
-use crate::run::Run;
+use crate::run::{Outcome, Run};
 use crate::week::Week;
 
 /// The whole text for a sheet.
 pub fn text(sheet: &[u8]) -> String {
     match Planned::of(sheet) {
         Ok(planned) => planned.text(),
-        Err(refused) => refusal_line(refused),
+        // "A refusal writes one line only".
+        Err(refused) => format!("{refused}\n"),
     }
-}
-
-/// "A refusal writes one line only, "refused" and its three numbers".
-fn refusal_line(refused: Refused) -> String {
-    let number = refused.refusal as u8;
-    format!("refused {number} {} {}\n", refused.place, refused.recipe)
 }
 
 /// A week with its plan, and what the text tells of the plan.
@@ -28,6 +23,7 @@ struct Planned {
     plan: Plan,
     stretches: Vec<Stretch>,
     run: Run,
+    outcomes: Vec<Outcome>,
 }
 
 impl Planned {
@@ -36,9 +32,11 @@ impl Planned {
         let week = list::read(sheet)?;
         let mut picks = vec![0; week.entries()];
         let plan = recursion::plan(&week, &mut picks).ok_or(Refusal::NoPlan)?;
+        let run = Run::of(&week, &plan.recipes);
         Ok(Planned {
             stretches: rule::stretches(&week, &plan.recipes).expect("a plan meets the rule"),
-            run: Run::of(&week, &plan.recipes),
+            outcomes: run.outcomes(),
+            run,
             week,
             plan,
         })
@@ -60,9 +58,11 @@ impl Planned {
         let (number, recipe) = (batch.number, self.plan.recipes[i]);
         let cost = batch.recipe(recipe).cost;
         let Stretch { start, end } = self.stretches[i];
-        let minutes = self.run.minutes(i + 1);
-        assert_eq!(minutes, usize::from(cost), "a plan leaves none unfinished");
-        let finish = self.run.finish(i + 1).unwrap_or(0);
+        let finish = match self.outcomes[i] {
+            Outcome::Aside => 0,
+            Outcome::Finished(minute) => minute,
+            Outcome::Unfinished(_) => panic!("a plan leaves none unfinished"),
+        };
         format!("{number} {recipe} {cost} {start} {end} {finish}\n")
     }
 }

@@ -46,10 +46,16 @@ pub fn meets(week: &Week, choice: &[u8], close: u16) -> bool {
     backward(week, choice, close).all(|stretch| stretch.is_some())
 }
 
-/// The stretches of a choice that meets the rule, in list order.
-pub fn stretches(week: &Week, choice: &[u8]) -> Option<Vec<Stretch>> {
-    let stretches: Option<Vec<Stretch>> = backward(week, choice, week.closing).collect();
-    stretches.map(|stretches| stretches.into_iter().rev().collect())
+/// The stretches of a choice that meets the rule, in list order; of one that breaks it "the first failing position met
+/// going backward".
+pub fn stretches(week: &Week, choice: &[u8]) -> Result<Vec<Stretch>, usize> {
+    let positions = (1..=choice.len()).rev();
+    let backward = backward(week, choice, week.closing).zip(positions);
+    let mut stretches = backward
+        .map(|(stretch, position)| stretch.ok_or(position))
+        .collect::<Result<Vec<Stretch>, usize>>()?;
+    stretches.reverse();
+    Ok(stretches)
 }
 
 /// "The total of a choice is the sum of the chosen worths."

@@ -26,6 +26,10 @@ pub struct Batch {
 impl Batch {
     pub const MAX_RECIPES: usize = 10;
 
+    pub fn has_recipe(&self, number: u8) -> bool {
+        (1..=self.recipes.len()).contains(&usize::from(number))
+    }
+
     /// The recipe with this number, from 1.
     pub fn recipe(&self, number: u8) -> Recipe {
         self.recipes[usize::from(number) - 1]

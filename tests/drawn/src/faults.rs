@@ -4,6 +4,15 @@ use crate::chance::Chance;
 use crate::weeks::put_in_order;
 use reference::{Batch, Recipe, Week};
 
+/// A fault of this refusal, and now and then a second one of any, where the first has left every batch a recipe.
+pub fn put_in_one_or_two(chance: &mut Chance, week: &mut Week, refusal: usize) {
+    put_in(chance, week, refusal);
+    if chance.one_in(4) && !week.batches.iter().any(|batch| batch.recipes.is_empty()) {
+        let second = chance.between(1..=10);
+        put_in(chance, week, second);
+    }
+}
+
 /// Makes the condition of a refusal from 1 to 10 hold of a week that has a batch. Another may hold as well, and come
 /// before it; 10 needs two batches.
 pub fn put_in(chance: &mut Chance, week: &mut Week, refusal: usize) {

@@ -11,6 +11,13 @@ pub struct Shape {
     pub minutes: RangeInclusive<u16>,
 }
 
+/// As many batches and recipes as there can be, in the longest weeks.
+pub const FULL: Shape = Shape {
+    batches: 16..=16,
+    recipes: 10..=10,
+    minutes: 2_391..=2_400,
+};
+
 /// What the batches of one week have in common.
 struct Habit {
     recipes: RangeInclusive<usize>,
