@@ -12,7 +12,7 @@ pub fn read(path: &str, text: &str) -> File {
     let own = path.split('/').nth(1).unwrap_or_default();
     let lines = code(text, "//");
     for (at, line) in lines.iter().enumerate() {
-        let item = unmarked(line);
+        let item = unmarked(line.trim_start());
         let (first, rest) = item.split_once(' ').unwrap_or((item, ""));
         let rest = rest.trim_end_matches(';');
         let name = identifiers(rest).next().unwrap_or_default();
@@ -41,9 +41,11 @@ fn unmarked(line: &str) -> &str {
     }
 }
 
-/// The lines to the first that is `end`, which is among them.
+/// The lines to the first that is `end`, which is among them; those of a method are indented.
 fn upto<'a>(end: &str, lines: &'a [&'a str]) -> &'a [&'a str] {
-    let last = lines.iter().position(|line| *line == end);
+    let last = lines
+        .iter()
+        .position(|line| line.trim_start() == end.trim_start());
     &lines[..=last.unwrap_or(lines.len() - 1)]
 }
 
@@ -81,9 +83,11 @@ fn types(text: &str) -> impl Iterator<Item = String> + '_ {
 }
 
 fn parameters(signature: &str) -> impl Iterator<Item = String> + '_ {
-    identifiers(signature)
-        .filter_map(|word| word.strip_suffix(':'))
-        .map(str::to_string)
+    let name = |word: &'_ str| match word {
+        "self" => Some(word.to_string()),
+        _ => word.strip_suffix(':').map(str::to_string),
+    };
+    identifiers(signature).filter_map(name)
 }
 
 /// With their colons: `week:` is a parameter or a field, and `Week::MAX_BATCHES` is not the type `Week`.

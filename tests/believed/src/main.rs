@@ -1,6 +1,6 @@
 //! What must be believed: the definitions that the contracts of the operations reach, and the structs and enums that these speak of.
-//! The last line has the totals. With the argument `list` they follow the list of all, with `others` that of the definitions which no
-//! such contract reaches.
+//! The last lines have the totals: of the planner, and of what weekdesk reads and writes besides. With the argument `list` they follow
+//! the list of all, with `others` that of the definitions which no such contract reaches.
 
 mod contracts;
 mod definitions;
@@ -15,8 +15,11 @@ use scope::Place;
 use std::collections::BTreeSet;
 use std::process::ExitCode;
 
-/// The operations open to callers.
-const OPERATIONS: [(&str, &str); 9] = [
+/// A contract: the file of a function, and its name.
+type Contract = (&'static str, &'static str);
+
+/// The planner's operations.
+const PLANNER: [Contract; 9] = [
     ("crates/planner/src/check.rt", "check"),
     ("crates/planner/src/choose.rt", "choose"),
     ("crates/planner/src/choose.rt", "table_fault"),
@@ -26,6 +29,22 @@ const OPERATIONS: [(&str, &str); 9] = [
     ("crates/sheet/src/read.rt", "read"),
     ("crates/report/src/lib.rt", "report"),
     ("crates/weekplan_c/src/lib.rt", "weekplan_choose"),
+];
+
+/// What weekdesk is made of: its lines and commands, what it writes down and lends, and what it answers.
+const WEEKDESK: [Contract; 12] = [
+    ("crates/words/src/line.rt", "extended"),
+    ("crates/command/src/lib.rt", "command_of"),
+    ("crates/draft/src/record.rt", "empty"),
+    ("crates/draft/src/record.rt", "with_batch"),
+    ("crates/draft/src/record.rt", "week"),
+    ("crates/draft/src/list.rt", "list_text"),
+    ("crates/draft/src/sheet.rt", "sheet_text"),
+    ("crates/lent/src/shown.rt", "shown_text"),
+    ("crates/answer/src/operation.rt", "choose_text"),
+    ("crates/answer/src/operation.rt", "check_text"),
+    ("crates/answer/src/operation.rt", "run_text"),
+    ("crates/answer/src/operation.rt", "no_command_text"),
 ];
 
 /// Document 01: "The best total is stated over the backward rule, never over the search." No operation's contract reaches these.
@@ -51,22 +70,31 @@ fn main() -> ExitCode {
 
 fn run(argument: &str) -> Result<(), String> {
     let repository = Repository::read("crates")?;
-    let reached = reached(&repository)?;
-    let (believed, others): (Vec<Found>, Vec<Found>) = repository
+    let of_the_planner = reached(&repository, &PLANNER)?;
+    let of_weekdesk = reached(&repository, &WEEKDESK)?;
+    let (planner, others): (Vec<Found>, Vec<Found>) = repository
         .entries()
-        .partition(|(file, entry)| reached.contains(&Place::new(file, &entry.name)));
+        .partition(|found| of_the_planner.contains(&place(found)));
+    let (besides, others): (Vec<Found>, Vec<Found>) = others
+        .into_iter()
+        .partition(|found| of_weekdesk.contains(&place(found)));
     match argument {
-        "list" => print(believed.iter()),
+        "list" => print(planner.iter().chain(&besides)),
         "others" => print(others.iter().filter(|found| is_definition(found))),
         _ => {}
     }
-    println!("{}", totals(&believed));
+    println!("believed: {}", totals(&planner));
+    println!("believed of weekdesk: {}", totals(&besides));
     Ok(())
 }
 
-fn reached(repository: &Repository) -> Result<BTreeSet<Place>, String> {
+fn place((file, entry): &Found) -> Place {
+    Place::new(file, &entry.name)
+}
+
+fn reached(repository: &Repository, operations: &[Contract]) -> Result<BTreeSet<Place>, String> {
     let mut all = BTreeSet::new();
-    for (file, operation) in OPERATIONS {
+    for &(file, operation) in operations {
         let reached = repository.reached_from(Place::new(file, operation))?;
         let contract = format!("{file}: the contract of {operation}");
         if !reached.iter().any(|place| place.file.contains("/specs/")) {
@@ -103,7 +131,5 @@ fn totals(list: &[Found]) -> String {
     let lines: usize = list.iter().map(|(_, entry)| entry.lines).sum();
     let files: BTreeSet<&str> = list.iter().map(|(file, _)| *file).collect();
     let files = files.len();
-    format!(
-        "believed: {definitions} definitions and {types} types, {lines} lines, in {files} files"
-    )
+    format!("{definitions} definitions and {types} types, {lines} lines, in {files} files")
 }
