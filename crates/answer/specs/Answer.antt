@@ -1,4 +1,4 @@
--- What weekdesk answers where an operation is asked, and where a line is no command.
+-- What weekdesk answers where an operation is asked, and where a line is no command: docs/WEEKDESK.md.
 use Prim.Native.Nat.{ℕ, _+_}
 use mathlib.Core.List.{List, [], _∷_, _++_}
 use lib.ListN.{length, take}

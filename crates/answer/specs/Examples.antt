@@ -1,4 +1,4 @@
--- The example of WEEKDESK.md, a list of no batches, batches that are unfinished and set aside, refusals, and lines that are no command,
+-- Case W at weekdesk, a list of no batches, batches that are unfinished and set aside, refusals, and lines that are no command,
 -- computed from the definitions: one table, one claim.
 use Prim.Native.Nat.{ℕ}
 use Prim.Native.String.{String}

@@ -1,4 +1,4 @@
--- The lines of an answer.
+-- The lines of an answer: docs/WEEKDESK.md, "The operations".
 use Prim.Native.Nat.{ℕ, _+_, _*_}
 use mathlib.Core.List.{List, [], _∷_, map, flatten}
 use Rattle.arrays.specs.Text.{bytes}

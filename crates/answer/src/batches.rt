@@ -1,4 +1,4 @@
-// The second line of an answer: what it says of each batch.
+// The second line of an answer, what it says of each batch: docs/WEEKDESK.md, "The operations".
 use edf::outcome::Outcome;
 use jobs::rule::Stretch;
 use planner::check::Checked;

@@ -1,4 +1,4 @@
--- Which command a line is.
+-- Which command a line is: docs/WEEKDESK.md, "Lines".
 use Prim.Native.Nat.{ℕ}
 use mathlib.Core.Bool.{Bool, false, cond}
 use mathlib.Core.List.{List, [], _∷_}

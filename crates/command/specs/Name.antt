@@ -1,4 +1,4 @@
--- The words that commands begin with.
+-- The words that commands begin with: docs/WEEKDESK.md.
 use Prim.Native.Nat.{ℕ}
 use mathlib.Core.Bool.{cond}
 use mathlib.Core.List.{List, [], _∷_}

@@ -1,4 +1,4 @@
--- Commands by the numbers that stand after their names.
+-- Commands by the numbers that stand after their names: docs/WEEKDESK.md, which each quotes.
 use Prim.Native.Nat.{ℕ, _+_, _-_, _*_, _/_, _%_, min}
 use mathlib.Core.Bool.{Bool, true, _&&_}
 use mathlib.Core.List.{List, [], _∷_}

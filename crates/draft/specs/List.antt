@@ -1,4 +1,4 @@
--- A list as the commands that write it down.
+-- A list as the commands that write it down: docs/WEEKDESK.md, "The operations".
 use Prim.Native.Nat.{ℕ, suc, _+_, _*_, min}
 use mathlib.Core.List.{List, [], _∷_, map, flatten}
 use lib.ListN.{length, getD}

@@ -1,4 +1,4 @@
--- A list as it is written down: "What is written down".
+-- A list as it is written down: docs/WEEKDESK.md, "What is written down".
 use Prim.Native.Nat.{ℕ, suc, min}
 use mathlib.Core.Bool.{cond}
 use mathlib.Core.List.{List, [], _∷_}

@@ -1,4 +1,4 @@
--- A list as the publisher's sheet: document 01, "The sheet".
+-- A list as the publisher's sheet: docs/WEEKDESK.md, "The operations", and document 01, "The sheet".
 use Prim.Native.Nat.{ℕ, suc, _+_, _-_, _*_, _/_, _%_, _≤_, _<_}
 use mathlib.Core.Bool.{cond}
 use mathlib.Core.List.{List, [], _∷_, _++_, flatten}

@@ -1,4 +1,4 @@
-// A list as the commands that write it down.
+// A list as the commands that write it down: docs/WEEKDESK.md, "The operations".
 use crate::record::Draft;
 use text::line::WEEK_WIDTH;
 use text::line::week_line;

@@ -1,4 +1,4 @@
-// A list as it is written down.
+// A list as it is written down: docs/WEEKDESK.md, "What is written down".
 use week::record::Batch;
 use week::record::Week;
 ghost use mathlib.Core.Path.{_≡_};

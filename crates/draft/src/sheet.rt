@@ -1,4 +1,4 @@
-// A list as the publisher's sheet.
+// A list as the publisher's sheet: docs/WEEKDESK.md, "The operations", and document 01, "The sheet".
 use crate::hex::put_byte;
 use crate::hex::put_value;
 use crate::record::Draft;

@@ -1,4 +1,4 @@
--- The bytes of a table or a log, in runs.
+-- The bytes of a table or a log, in runs: docs/WEEKDESK.md, "The operations".
 use Prim.Native.Nat.{ℕ, suc, _+_, _*_, _≤_}
 use mathlib.Core.Path.{_≡_}
 use mathlib.Core.Bool.{cond}

@@ -1,4 +1,4 @@
-// The bytes of a table or a log as text, in runs.
+// The bytes of a table or a log as text, in runs: docs/WEEKDESK.md, "The operations".
 use crate::MAX_TABLE;
 use text::put::put;
 use text::put::put_decimal;

@@ -28,12 +28,16 @@ fn within(size: usize, bytes: &[u8]) -> usize
     bytes.len()
 }
 
+fn write(desk: Desk, bytes: &[u8]) -> Desk {
+    desk.after_writing(io::write_all(STDOUT_FILENO, bytes))
+}
+
 fn say(desk: Desk, text: AnswerText) -> Desk
     requires { ⌜ Counts (text .len) (text .bytes) ⌝ }
 {
     let bytes = text.bytes;
     let len = text.len;
-    desk.after_writing(io::write_all(STDOUT_FILENO, &bytes[0..len]))
+    write(desk, &bytes[0..len])
 }
 
 fn no_command(desk: Desk) -> Desk {
@@ -98,21 +102,21 @@ fn show(desk: Desk, word: &[u8], lent: &[u8], size: usize) -> Desk {
     if !io::write_all(STDOUT_FILENO, word) {
         return desk.after_writing(false);
     }
-    desk.after_writing(io::write_all(STDOUT_FILENO, &bytes[0..len]))
+    write(desk, &bytes[0..len])
 }
 
 fn list(desk: Desk) -> Desk {
     let text = list_text(desk.draft);
     let bytes = text.bytes;
     let len = text.len;
-    desk.after_writing(io::write_all(STDOUT_FILENO, &bytes[0..len]))
+    write(desk, &bytes[0..len])
 }
 
 fn sheet(desk: Desk) -> Desk {
     let text = sheet_text(desk.draft);
     let bytes = text.bytes;
     let len = text.len;
-    desk.after_writing(io::write_all(STDOUT_FILENO, &bytes[0..len]))
+    write(desk, &bytes[0..len])
 }
 
 fn help(desk: Desk) -> Desk {

@@ -1,4 +1,4 @@
--- Lines that come in pieces: "A line is words with spaces between them, ended by a line feed".
+-- Lines that come in pieces: docs/WEEKDESK.md, "Lines": "A line is words with spaces between them, ended by a line feed".
 use Prim.Native.Nat.{ℕ, suc, _+_}
 use mathlib.Core.Bool.{Bool, true, false, cond}
 use mathlib.Core.List.{List, [], _∷_}

@@ -1,4 +1,4 @@
--- The numbers that words are, all of them or none.
+-- The numbers that words are, all of them or none: docs/WEEKDESK.md, "Lines".
 use Prim.Native.Nat.{ℕ}
 use mathlib.Core.Bool.{Bool, true, false, cond, _&&_}
 use mathlib.Core.List.{List, [], _∷_, map}

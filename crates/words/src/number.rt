@@ -1,4 +1,4 @@
-// A word as a number.
+// A word as a number: docs/WEEKDESK.md, "Lines".
 ghost use mathlib.Core.Path.{_≡_};
 ghost use Rattle.words.specs.Number.{numberOf};
 
