@@ -9,6 +9,10 @@ module _ {A : Type 0} (P : A → Type 0) where
   cond-both true one other = one
   cond-both false one other = other
 
+  pub cond-cases : (q : Bool) {a b : A} → (q ≡ true → P a) → (q ≡ false → P b) → P (cond q a b)
+  cond-cases true one other = one refl
+  cond-cases false one other = other refl
+
 pub option-cases : {A : Type 0} (o : Option A) → (o ≡ none) ⊎ ((a : A) × (o ≡ some a))
 option-cases none = inl refl
 option-cases (some a) = inr (a, refl)

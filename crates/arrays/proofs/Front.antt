@@ -1,11 +1,13 @@
--- A lent slice whose first n entries are written and whose others are kept: `front ++ drop n old`.
+-- An array or a lent slice whose first n entries are written and whose others are kept: `front ++ drop n old`.
 use Prim.Native.Nat.{ℕ, suc, _+_, _-_, _≤_, _<_}
 use native.Mathlib.Numerals.{add-one}
 use native.Mathlib.Omega.{arith}
 use mathlib.Core.Path.{_≡_, sym, _∙_}
 use mathlib.Core.List.{List, _++_, append-assoc}
-use lib.ListN.{length, getD, take, drop, set}
+use lib.ListN.{length, getD, take, drop, set, replicate}
 use lib.Seq.{length-take-le, length-front, getD-append-add, getD-drop, take-suc, drop-cons, set-at}
+use Rattle.arrays.specs.Made.{padded}
+use Rattle.arrays.proofs.Places.{drop-replicate}
 
 module _ {A : Type 0} (front old : List A) (n : ℕ) (size : length front ≡ n) where
   pub length-kept : n ≤ length old → length (front ++ drop n old) ≡ length old
@@ -27,3 +29,8 @@ front-step d from old i more room =
       take-suc from i d more,
       append-assoc,
     )
+
+-- over an array that is d throughout, what it has written is padded
+pub front-padded : {A : Type 0} (m : ℕ) (d : A) (from : List A) (n : ℕ) → n ≤ length from → n ≤ m →
+    take n from ++ drop n (replicate m d) ≡ padded m d (take n from)
+front-padded m d from n some most = rw (drop-replicate n m d most, length-take-le n from some)

@@ -1,6 +1,8 @@
 pub mod Cases
 pub mod Tests
 pub mod Each
+pub mod Pairs
+pub mod Rearranges
 pub mod Places
 pub mod Tabulates
 pub mod Stores

@@ -28,7 +28,7 @@ module _ {A : Type 0} where
   length-forward [] = refl
   length-forward (x ∷ xs) = simp length-append (omega (arith, length-forward xs))
 
-  length-padded : (m : ℕ) (d : A) (xs : List A) → length xs ≤ m → length (padded m d xs) ≡ m
+  pub length-padded : (m : ℕ) (d : A) (xs : List A) → length xs ≤ m → length (padded m d xs) ≡ m
   length-padded m d xs h = simp (length-append, length-replicate) (omega arith)
 
   pub length-placed : (m : ℕ) (d : A) (xs : List A) → length xs ≤ m → length (placed m d xs) ≡ m

@@ -1,4 +1,4 @@
--- What holds of each entry of a list, and what of some.
+-- What holds of each entry of a list, of each and every later one, and of some.
 use Prim.Native.Nat.{ℕ, zero, suc, _≤_, _<_}
 use mathlib.Core.Bool.{Bool, false, _||_}
 use mathlib.Core.List.{List, [], _∷_}
@@ -8,6 +8,11 @@ use lib.ListN.{getD}
 abbrev pub All : {A : Type 0} → (A → Type 0) → List A → Type 0
 All P [] = Unit {0}
 All P (x ∷ xs) = P x × All P xs
+
+-- each stands in R to every later one
+abbrev pub Pairs : {A : Type 0} → (A → A → Type 0) → List A → Type 0
+Pairs R [] = Unit {0}
+Pairs R (x ∷ xs) = All (R x) xs × Pairs R xs
 
 -- each of the first n entries is one of 1 to its limit
 abbrev pub OneOfEach : ℕ → (ℕ → ℕ) → List ℕ → Type 0

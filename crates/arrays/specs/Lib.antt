@@ -2,6 +2,7 @@ pub mod Bits
 pub mod Position
 pub mod Made
 pub mod Each
+pub mod Rearranged
 pub mod Patched
 pub mod Sum
 pub mod Example
