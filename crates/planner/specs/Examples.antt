@@ -16,8 +16,9 @@ use Rattle.select.specs.Table.{filled}
 use Rattle.week.specs.declared.record.Recipe.{Recipe}
 use Rattle.week.specs.declared.record.Batch.{Batch}
 use Rattle.week.specs.declared.record.Week.{Week}
-use Rattle.week.specs.Record.{maxBatches, maxRecipes, noRecipe, emptyBatch, spanOf}
+use Rattle.week.specs.Record.{maxRecipes, noRecipe, spanOf}
 use Rattle.week.specs.Order.{before}
+use Rattle.week.specs.Written.{written}
 use Rattle.week.specs.Refusal.{refusedIf, orElse, firstOf, first, shortFault, unlessRefused, answerBy, atPlace}
 use Rattle.judge.specs.Fault.{weekFault, numberFault, orderFault, batchFault, listFault, nameFault, choiceFault}
 use Rattle.judge.specs.BatchFault.{costFault, worthFault}
@@ -37,10 +38,6 @@ abbrev pub batch : (number r d : ℕ) → List Recipe → Batch
 batch number r d rs =
     record { number = number; arrival = r; due = d; count = length rs; recipes = rs ++ replicate (maxRecipes - length rs) noRecipe }
 
-abbrev pub week : (t c : ℕ) → List Batch → Week
-week t c bs =
-    record { opening = t; closing = c; count = length bs; batches = bs ++ replicate (maxBatches - length bs) emptyBatch }
-
 -- costs falling by u to u, worths falling to 1, n of them
 abbrev falling : ℕ → ℕ → List Recipe
 falling u zero = []
@@ -48,7 +45,7 @@ falling u (suc n) = recipe (u * suc n) (suc n) ∷ falling u n
 
 unfoldable pub weekW : Week
 weekW =
-    week 0 100
+    written 0 100
     (batch 7 0 40 (recipe 30 9 ∷ recipe 10 4 ∷ [])
     ∷ batch 8 20 60 (recipe 30 8 ∷ recipe 0 0 ∷ [])
     ∷ batch 9 0 100 (recipe 50 10 ∷ recipe 20 5 ∷ [])
@@ -57,39 +54,39 @@ weekW =
 -- the source's example times ten, closing at c
 weekE : ℕ → Week
 weekE c =
-    week 0 c
+    written 0 c
     (batch 1 0 900 (falling 31 10)
     ∷ batch 2 0 1010 (recipe 910 10 ∷ [])
     ∷ batch 3 540 2340 (falling 22 10)
     ∷ [])
 
 unfoldable pub weekG : List Recipe → Week
-weekG rs = week 0 10 (batch 1 0 10 rs ∷ [])
+weekG rs = written 0 10 (batch 1 0 10 rs ∷ [])
 
 weekJ : Week
-weekJ = week 0 10 (batch 1 5 9 (recipe 4 1 ∷ []) ∷ batch 2 0 10 (recipe 5 1 ∷ []) ∷ [])
+weekJ = written 0 10 (batch 1 5 9 (recipe 4 1 ∷ []) ∷ batch 2 0 10 (recipe 5 1 ∷ []) ∷ [])
 
 weekK : ℕ → Week
-weekK d = week 20 30 (batch 1 5 d (recipe 1 1 ∷ []) ∷ [])
+weekK d = written 20 30 (batch 1 5 d (recipe 1 1 ∷ []) ∷ [])
 
 unfoldable pub weekLate : Week
-weekLate = week 0 4 (batch 1 0 2 (recipe 3 1 ∷ []) ∷ batch 2 0 4 (recipe 3 1 ∷ []) ∷ [])
+weekLate = written 0 4 (batch 1 0 2 (recipe 3 1 ∷ []) ∷ batch 2 0 4 (recipe 3 1 ∷ []) ∷ [])
 
 -- two minutes read, one idle, two read, two idle
 weekGap : Week
-weekGap = week 0 7 (batch 1 0 3 (recipe 2 1 ∷ []) ∷ batch 2 3 6 (recipe 2 1 ∷ []) ∷ [])
+weekGap = written 0 7 (batch 1 0 3 (recipe 2 1 ∷ []) ∷ batch 2 3 6 (recipe 2 1 ∷ []) ∷ [])
 
 -- a batch that arrives after the bound, and is set aside or not
 weekAside : Week
 weekAside =
-    week 0 10
+    written 0 10
     (batch 1 0 4 (recipe 2 1 ∷ [])
     ∷ batch 2 8 9 (recipe 1 5 ∷ recipe 0 0 ∷ [])
     ∷ batch 3 0 10 (recipe 9 9 ∷ recipe 6 9 ∷ [])
     ∷ [])
 
 weekP : List Recipe → Week
-weekP rs = week 0 3 (batch 1 0 3 rs ∷ [])
+weekP rs = written 0 3 (batch 1 0 3 rs ∷ [])
 
 -- The answers as numbers.
 -- Choose's refusal, total and recipes, with a table that is just long enough
@@ -161,7 +158,7 @@ table =
     ∷ (check (weekK 21) (1 ∷ []) is (0 ∷ 0 ∷ 0 ∷ 1 ∷ 20 ∷ 21 ∷ []))
     ∷ (choose (weekK 20) is (14 ∷ 0 ∷ 0 ∷ 0 ∷ 0 ∷ []))
     -- L
-    ∷ (choose (week 0 10 []) is (0 ∷ 0 ∷ 0 ∷ 0 ∷ []))
+    ∷ (choose (written 0 10 []) is (0 ∷ 0 ∷ 0 ∷ 0 ∷ []))
     -- What A to L leave open, worked out from 01's text: a late batch goes on, and the one behind it is left with 2 minutes; a
     -- batch that is set aside; idle minutes between two batches and after them; and an entry that follows an idle minute
     ∷ (run weekLate (1 ∷ 1 ∷ []) is (0 ∷ 0 ∷ 0 ∷ 2 ∷ 0 ∷ 1 ∷ 3 ∷ 2 ∷ 2 ∷ []))

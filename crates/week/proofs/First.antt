@@ -153,6 +153,13 @@ module _ (xs ys : List Refusal) where
 pub append-last : (xs : List Refusal) (r : Refusal) → Proper r → firstOf xs .number ≡ 0 → firstOf (xs ++ (r ∷ [])) ≡ r
 append-last xs r proper z = append-rest xs (r ∷ []) z ∙ firstOf-one r proper
 
+-- one that refuses nothing, at the end
+pub append-accepted : (xs : List Refusal) → firstOf (xs ++ (accepted ∷ [])) ≡ firstOf xs
+append-accepted xs =
+    firstOf-append xs (accepted ∷ [])
+    ∙ ap (orElse (firstOf xs)) (firstOf-one accepted (λ _. refl))
+    ∙ or-accepted (firstOf xs) (firstOf-proper xs)
+
 -- ---- of f i, f (i + 1), ..
 pub place-first : (place : ℕ) (f : ℕ → Refusal) (i m : ℕ) → atPlace place (first f i m) ≡ first (λ k. atPlace place (f k)) i m
 unfolding first

@@ -1,6 +1,14 @@
 pub mod First
 pub mod Passes
+pub mod Each
 pub mod Answering
 pub mod Holding
 pub mod Owned
 pub mod Naming
+pub mod Numbers
+pub mod Before
+pub mod Ordering
+pub mod Without
+pub mod Writing
+pub mod Opened
+pub mod LeftOut

@@ -1,4 +1,5 @@
-// What the desk hands in, a week's list of batches and their order, and what a refusal is.
+// What the desk hands in, a week's list of batches, their order and lists written from them, and what a refusal is.
 pub mod order;
 pub mod record;
 pub mod refusal;
+pub mod written;
