@@ -11,23 +11,33 @@ use Rattle.week.specs.declared.record.Batch.{Batch}
 use Rattle.week.specs.declared.record.Week.{Week}
 use Rattle.week.specs.Record.{maxMinutes, maxBatches, maxRecipes, batchAt, recipeAt, numberAt, spanOf}
 use Rattle.week.specs.Order.{before}
-use Rattle.judge.specs.BatchFault.{countFault, dueFault, arrivalFault, costFault, worthFault}
-use Rattle.judge.specs.Fault.{weekFault, numberFault, orderFault, batchFault, listFault, WellFormed}
+use Rattle.week.specs.Refusal.{firstOf}
+use Rattle.judge.specs.BatchFault.{countFault, dueFault, arrivalFault, costFault, worthFault, ownFaults}
+use Rattle.judge.specs.Fault.{minutesFaults, weekFault, numberFault, orderFault, batchFault, listFault, WellFormed}
 use Rattle.judge.specs.Orderly.{Fair, Orderly}
 use Rattle.week.proofs.First.{Proper, place-number, firstOf-proper}
-use Rattle.week.proofs.Passes.{Passes, proper-passes, if-passes, firstOf-passes, first-passes, rest-passes}
+use Rattle.week.proofs.Passes.{Passes, proper-passes, if-passes, firstOf-passes, append-passes, first-passes, rest-passes}
+
+-- 1 and 2
+pub minutes-passes : (t c : ℕ) → Passes (firstOf (minutesFaults t c)) ↔ ((t < c) × (c - t ≤ maxMinutes))
+minutes-passes t c =
+    let one = if-passes 1 0 0 refl (le-fails c t) in
+    let two = if-passes 2 0 0 refl (lt-fails maxMinutes (c - t)) in
+    Iff·trans (firstOf-passes _) (
+      λ (opens, (short, _)). (one .0 opens, two .0 short),
+      λ (opens, short). (one .1 opens, (two .1 short, tt)),
+    )
 
 -- 1 to 3
 pub week-passes : (w : Week) →
     Passes (weekFault w) ↔ ((w .opening < w .closing) × (spanOf w ≤ maxMinutes) × (w .count ≤ maxBatches))
 unfolding weekFault
 week-passes w =
-    let one = if-passes 1 0 0 refl (le-fails (w .closing) (w .opening)) in
-    let two = if-passes 2 0 0 refl (lt-fails maxMinutes (spanOf w)) in
+    let minutes = minutes-passes (w .opening) (w .closing) in
     let three = if-passes 3 0 0 refl (lt-fails maxBatches (w .count)) in
-    Iff·trans (firstOf-passes _) (
-      λ (opens, (short, (most, _))). (one .0 opens, two .0 short, three .0 most),
-      λ (opens, short, most). (one .1 opens, (two .1 short, (three .1 most, tt))),
+    Iff·trans (append-passes (minutesFaults (w .opening) (w .closing)) _) (
+      λ (early, last). (minutes .0 early .0, minutes .0 early .1, three .0 (firstOf-passes _ .0 last .0)),
+      λ (opens, short, most). (minutes .1 (opens, short), firstOf-passes _ .1 (three .1 most, tt)),
     )
 
 -- 4 to 8, of a batch
@@ -54,8 +64,27 @@ module _ (b : Batch) where
       if-passes 8 0 (suc k) refl
       (and-fails _ _ (eqb-true (recipeAt b k .cost) 0, eq-eqb (recipeAt b k .cost) 0) (none-fails (recipeAt b k .worth)))
 
+-- together
+pub own-passes : (c : ℕ) (b : Batch) → Passes (firstOf (ownFaults c b)) ↔ Fair c b
+own-passes c b = Iff·trans (firstOf-passes _) (
+  λ (count, (due, (arrival, (costs, (worths, _))))).
+      record {
+        some = count-passes b .0 count .0;
+        few = count-passes b .0 count .1;
+        due = due-passes b .0 due;
+        arrival = arrival-passes b c .0 arrival;
+        costs = λ k low high. cost-passes b k .0 (rest-passes _ _ .0 costs k low high);
+        worths = λ k l. worth-passes b k .0 (first-passes _ _ .0 worths k l);
+      },
+  λ fair.
+      let count = count-passes b .1 (fair .some, fair .few) in
+      let costs = rest-passes _ _ .1 (λ k low high. cost-passes b k .1 (fair .costs k low high)) in
+      let worths = first-passes _ _ .1 (λ k l. worth-passes b k .1 (fair .worths k l)) in
+      (count, (due-passes b .1 (fair .due), (arrival-passes b c .1 (fair .arrival), (costs, (worths, tt))))),
+)
+
 -- 9, of a batch after n others
-number-passes : (numbers : ℕ → ℕ) (n : ℕ) (b : Batch) →
+pub number-passes : (numbers : ℕ → ℕ) (n : ℕ) (b : Batch) →
     Passes (numberFault numbers n b) ↔ ((1 ≤ b .number) × ((h : ℕ) → h < n → numbers h ≡ b .number → ⊥))
 unfolding numberFault
 number-passes numbers n b =
@@ -81,39 +110,15 @@ record OrderlyAt (w : Week) (i : ℕ) : Type 0 where
 batch-passes : (w : Week) (i : ℕ) → Passes (batchFault w i) ↔ OrderlyAt w i
 unfolding batchFault
 batch-passes w i =
-    let c = w .closing in
-    let b = batchAt w i in
-    let number = number-passes (numberAt w) i b in
-    let order = order-passes (w .opening) i (batchAt w (i - 1)) b in
+    let own = own-passes (w .closing) (batchAt w i) in
+    let number = number-passes (numberAt w) i (batchAt w i) in
+    let order = order-passes (w .opening) i (batchAt w (i - 1)) (batchAt w i) in
     Iff·trans (λ z. sym (place-number _ _) ∙ z, λ z. place-number _ _ ∙ z)
-    (Iff·trans (firstOf-passes _) (
-      λ (count, (due, (arrival, (costs, (worths, (new, (after, _))))))).
-          record {
-            fair = record {
-              some = count-passes b .0 count .0;
-              few = count-passes b .0 count .1;
-              due = due-passes b .0 due;
-              arrival = arrival-passes b c .0 arrival;
-              costs = λ k low high. cost-passes b k .0 (rest-passes _ _ .0 costs k low high);
-              worths = λ k l. worth-passes b k .0 (first-passes _ _ .0 worths k l);
-            };
-            numbered = number .0 new .0;
-            differ = number .0 new .1;
-            order = order .0 after;
-          },
-      λ h.
-          let fair = h .fair in
-          let costs = rest-passes _ _ .1 (λ k low high. cost-passes b k .1 (fair .costs k low high)) in
-          let worths = first-passes _ _ .1 (λ k l. worth-passes b k .1 (fair .worths k l)) in (
-            count-passes b .1 (fair .some, fair .few),
-            (
-              due-passes b .1 (fair .due),
-              (
-                arrival-passes b c .1 (fair .arrival),
-                (costs, (worths, (number .1 (h .numbered, h .differ), (order .1 (h .order), tt)))),
-              ),
-            ),
-          ),
+    (Iff·trans (append-passes (ownFaults (w .closing) (batchAt w i)) _) (
+      λ (first, last).
+          let (new, (after, _)) = firstOf-passes _ .0 last in
+          record { fair = own .0 first; numbered = number .0 new .0; differ = number .0 new .1; order = order .0 after },
+      λ h. (own .1 (h .fair), firstOf-passes _ .1 (number .1 (h .numbered, h .differ), (order .1 (h .order), tt))),
     ))
 
 -- all batches together

@@ -10,19 +10,18 @@ use Rattle.arrays.specs.Each.{someBelow}
 use Rattle.week.specs.declared.record.Batch.{Batch}
 use Rattle.week.specs.declared.record.Week.{Week}
 use Rattle.week.specs.declared.refusal.Refusal.{Refusal}
-use Rattle.week.specs.Record.{maxMinutes, maxBatches, batchAt, numberAt, spanOf}
+use Rattle.week.specs.Record.{maxMinutes, maxBatches, batchAt, numberAt}
 use Rattle.week.specs.Order.{before}
 use Rattle.week.specs.Refusal.{accepted, refusedIf, firstOf, first, atPlace}
 use Rattle.judge.specs.BatchFault.{worthsFault, ownFaults}
 
--- "1: c is not after t. 2: c − t is above 2,400. 3: more than 16 batches."
+-- "1: c is not after t. 2: c − t is above 2,400."
+abbrev pub minutesFaults : (opening closing : ℕ) → List Refusal
+minutesFaults t c = refusedIf 1 0 0 (leb c t) ∷ refusedIf 2 0 0 (ltb maxMinutes (c - t)) ∷ []
+
+-- "3: more than 16 batches."
 unfoldable pub weekFault : Week → Refusal
-weekFault w =
-    firstOf
-    (refusedIf 1 0 0 (leb (w .closing) (w .opening))
-    ∷ refusedIf 2 0 0 (ltb maxMinutes (spanOf w))
-    ∷ refusedIf 3 0 0 (ltb maxBatches (w .count))
-    ∷ [])
+weekFault w = firstOf (minutesFaults (w .opening) (w .closing) ++ (refusedIf 3 0 0 (ltb maxBatches (w .count)) ∷ []))
 
 -- "9: number 0, or a number that stands earlier in the list.": of a batch after n others, whose numbers are given by index
 unfoldable pub numberFault : (ℕ → ℕ) → ℕ → Batch → Refusal
