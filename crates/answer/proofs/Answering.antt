@@ -1,35 +1,43 @@
--- Answers as text: the refusal or two lines, put into an array of zeros; and that a list which is accepted has at most 16 batches.
-use Prim.Native.Nat.{ℕ, _≤_}
+-- Answers as text: the refusal, or one line or two, put into an array of zeros; and that a list which is accepted has at most 16 batches.
+use Prim.Native.Nat.{ℕ, _≤_, min}
+use native.Mathlib.Decide.{decLt}
 use native.Mathlib.Omega.{arith}
-use mathlib.Core.Path.{_≡_, refl, ap₂}
+use mathlib.Core.Path.{_≡_, refl, sym, ap, ap₂, _∙_}
 use mathlib.Core.List.{List, _++_}
-use lib.ListN.{replicate}
+use lib.ListN.{length, replicate}
+use lib.Seq.{take-all}
 use Rattle.io.specs.Counts.{Counts}
+use Rattle.arrays.specs.Text.{bytes}
 use Rattle.week.specs.declared.record.Week.{Week}
 use Rattle.week.specs.declared.refusal.Refusal.{Refusal}
 use Rattle.week.specs.Record.{maxBatches}
 use Rattle.week.specs.Refusal.{answerBy}
 use Rattle.week.proofs.Answering.{answers}
 use Rattle.judge.proofs.Sound.{sound}
+use Rattle.planner.specs.declared.choose.Plan.{Plan}
 use Rattle.planner.specs.Check.{checkAnswer}
-use Rattle.planner.specs.Choose.{chooseAnswer}
 use Rattle.planner.specs.Run.{runAnswer}
-use Rattle.planner.proofs.Demands.{check-passed, choose-plans, run-runs}
+use Rattle.planner.proofs.Demands.{check-passed, run-runs}
 use Rattle.text.specs.Line.{refusalLine}
 use Rattle.text.specs.Contract.{Puts}
 use Rattle.text.proofs.Putting.{puts-then, puts-padded, puts-counts}
 use Rattle.answer.specs.declared.operation.AnswerText.{AnswerText}
-use Rattle.answer.specs.Answer.{maxAnswer, textOf}
+use Rattle.answer.specs.Line.{totalLine, recipesLine}
+use Rattle.answer.specs.Answer.{maxAnswer, textOf, planText}
 
 -- "A refusal is answered `refused N P R` and nothing else."
 pub puts-refused : (fault : Refusal) (passed : List ℕ) {text last : List ℕ} {end : ℕ} → (fault .number ≡ 0 → ⊥) →
     Puts text 0 (refusalLine fault) last end → Puts text 0 (answerBy fault refusalLine passed) last end
 puts-refused fault passed n put = rw (answers fault refusalLine passed .refused refl n) put
 
+pub puts-accepted : (fault : Refusal) (passed : List ℕ) {text last : List ℕ} {end : ℕ} → fault .number ≡ 0 →
+    Puts text 0 passed last end → Puts text 0 (answerBy fault refusalLine passed) last end
+puts-accepted fault passed z put = rw (answers fault refusalLine passed .passed z) put
+
+-- where nothing refuses, one part after another
 pub puts-passed : (fault : Refusal) {text first middle second last : List ℕ} {at end : ℕ} → fault .number ≡ 0 →
     Puts text 0 first middle at → Puts middle at second last end → Puts text 0 (answerBy fault refusalLine (first ++ second)) last end
-puts-passed fault {first = first} {second = second} z put then =
-    rw (answers fault refusalLine (first ++ second) .passed z) (puts-then put then)
+puts-passed fault {first = first} {second = second} z put then = puts-accepted fault (first ++ second) z (puts-then put then)
 
 -- by value, with a length that counts bytes of the array
 pub puts-answer : {text bytes : List ℕ} {end : ℕ} → Puts (replicate maxAnswer 0) 0 text bytes end →
@@ -39,11 +47,20 @@ puts-answer put = (
   puts-counts put,
 )
 
+-- a plan has no more recipes than there are places
+pub plan-places : (n : ℕ) (plan : Plan) → length (plan .choice) ≡ maxBatches → planText (min n maxBatches) plan ≡ planText n plan
+unfolding planText
+plan-places n plan size =
+    ap (λ (choice : List ℕ). answerBy (plan .refusal) refusalLine (totalLine (bytes "plan") (plan .total) ++ recipesLine choice))
+    (elim (decLt maxBatches n) [
+      | yes over ↦
+          let all : min n maxBatches ≡ maxBatches = omega arith in
+          rw all (take-all maxBatches (plan .choice) (omega arith) ∙ sym (take-all n (plan .choice) (omega arith)))
+      | no within ↦ let same : min n maxBatches ≡ n = omega arith in rw same
+    ])
+
 -- 3: "more than 16 batches" refuses, so a list of which an operation tells more than that has no more
 module _ (w : Week) where
-  pub choose-most : (size : ℕ) → chooseAnswer w size .refusal .number ≡ 0 → w .count ≤ maxBatches
-  choose-most size z = sound w (choose-plans w size .0 z .0) .most
-
   pub check-most : (choice : List ℕ) → checkAnswer w choice .refusal .number ≡ 0 → w .count ≤ maxBatches
   check-most choice z = sound w (check-passed w choice z .list) .most
 

@@ -4,6 +4,7 @@ use mathlib.Core.List.{List, [], _∷_, _++_}
 use lib.ListN.{length, take}
 use Rattle.arrays.specs.Text.{bytes}
 use Rattle.arrays.specs.Made.{padded}
+use Rattle.week.specs.declared.refusal.Refusal.{Refusal}
 use Rattle.week.specs.Refusal.{answerBy}
 use Rattle.planner.specs.declared.check.Checked.{Checked}
 use Rattle.planner.specs.declared.choose.Plan.{Plan}
@@ -13,7 +14,8 @@ use Rattle.text.specs.Line.{lineOf, refusalLine}
 use Rattle.answer.specs.declared.operation.AnswerText.{AnswerText}
 use Rattle.answer.specs.Line.{totalLine, ranLine, recipesLine, stretchesLine, outcomesLine, ranWidth, batchesWidth}
 
--- `choose`: "`plan TOTAL`, then `recipes K K ..`", for a list of n batches; "A refusal is answered `refused N P R` and nothing else."
+-- `choose`, and `plan`, which answers "as `choose`": "`plan TOTAL`, then `recipes K K ..`", for a list of n batches; "A refusal is
+-- answered `refused N P R` and nothing else."
 unfoldable pub planText : ℕ → Plan → List ℕ
 planText n plan =
     answerBy (plan .refusal) refusalLine (totalLine (bytes "plan") (plan .total) ++ recipesLine (take n (plan .choice)))
@@ -28,6 +30,10 @@ checkText n checked =
 unfoldable pub runText : ℕ → WeekRun → List ℕ
 runText n ran =
     answerBy (ran .refusal) refusalLine (ranLine (ran .changes) (ran .idle) ++ outcomesLine (take n (ran .batches)))
+
+-- `open`, `add`, `withdraw`: "`ok`"
+unfoldable pub okText : Refusal → List ℕ
+okText refusal = answerBy refusal refusalLine (lineOf (bytes "ok") [])
 
 -- "is answered `no command: line N`, N counted from 1"
 unfoldable pub noCommandText : ℕ → List ℕ

@@ -1,5 +1,5 @@
--- Case W at weekdesk, a list of no batches, batches that are unfinished and set aside, refusals, and lines that are no command,
--- computed from the definitions: one table, one claim.
+-- Case W at weekdesk, a list of no batches, batches that are unfinished and set aside, refusals, what the book's calls answer, and
+-- lines that are no command, computed from the definitions: one table, one claim.
 use Prim.Native.Nat.{ℕ}
 use Prim.Native.String.{String}
 use mathlib.Core.Path.{_≡_, refl}
@@ -16,7 +16,7 @@ use Rattle.edf.specs.Workload.{choiceLog, workloadOf, outcomeAt}
 use Rattle.week.specs.declared.record.Week.{Week}
 use Rattle.week.specs.Record.{maxMinutes, maxBatches, emptyBatch, emptyWeek}
 use Rattle.week.specs.Order.{before}
-use Rattle.week.specs.Refusal.{refusedIf, orElse, firstOf, first, shortFault, unlessRefused, answerBy, atPlace}
+use Rattle.week.specs.Refusal.{accepted, refused, refusedIf, orElse, firstOf, first, shortFault, unlessRefused, answerBy, atPlace}
 use Rattle.judge.specs.Fault.{weekFault, numberFault, orderFault, batchFault, listFault, nameFault, choiceFault}
 use Rattle.judge.specs.BatchFault.{costFault, worthFault}
 use Rattle.planner.specs.Check.{ruleFault, checkFault, passed, refusedCheck, checkAnswer}
@@ -26,7 +26,7 @@ use Rattle.planner.specs.Examples.{recipe, weekW, weekG, weekLate}
 use Rattle.text.specs.Decimal.{spelt, decimal}
 use Rattle.text.specs.Line.{spaced, refusalLine}
 use Rattle.answer.specs.Line.{totalLine, ranLine, outcomeFields, recipesLine, stretchesLine, outcomesLine}
-use Rattle.answer.specs.Answer.{planText, checkText, runText, noCommandText}
+use Rattle.answer.specs.Answer.{planText, checkText, runText, okText, noCommandText}
 
 -- what is asked of a list, with the table and the log that are lent at the start
 abbrev choose : Week → List ℕ
@@ -71,6 +71,10 @@ table =
     ∷ (runText 3 (runAnswer weekW (2 ∷ 1 ∷ 1 ∷ []) 99) gives "refused 12 0 0\n")
     ∷ (choose (weekG (recipe 1 1 ∷ recipe 2 1 ∷ [])) gives "refused 7 1 2\n")
     ∷ (check weekMany (1 ∷ []) gives "refused 3 0 0\n")
+    -- of the book: a call that is accepted, and two that are refused, the second at recipe 2 of its batch
+    ∷ (okText accepted gives "ok\n")
+    ∷ (okText (refused 20 0 0) gives "refused 20 0 0\n")
+    ∷ (okText (refused 7 0 2) gives "refused 7 0 2\n")
     -- no command: a line's number is no number of a command, and can be above 65,535
     ∷ (noCommandText 3 gives "no command: line 3\n")
     ∷ (noCommandText 65536 gives "no command: line 65536\n")
@@ -85,5 +89,5 @@ unfolding
     ruleFault checkFault passed refusedCheck checkAnswer tableFault chooseFault refusedPlan planOf chooseAnswer
     logFault runFault weekLog logAnswer refusedRun runAnswer
     spelt decimal spaced refusalLine totalLine ranLine outcomeFields recipesLine stretchesLine outcomesLine
-    planText checkText runText noCommandText
+    planText checkText runText okText noCommandText
 examples = refl

@@ -1,6 +1,8 @@
-// The lines that a plan, a check and a run begin with, and the line of no command.
+// The lines that a plan, a check and a run begin with, and those that are an answer alone.
+use text::line::refusal_line;
 use text::put::put;
 use text::put::put_named;
+use week::refusal::Refusal;
 ghost use Prim.Native.Nat.{_≤_};
 ghost use mathlib.Core.List.{[], _∷_};
 ghost use lib.ListN.{length};
@@ -8,7 +10,7 @@ ghost use Rattle.text.specs.Decimal.{decimal};
 ghost use Rattle.text.specs.Line.{lineOf};
 ghost use Rattle.text.specs.Contract.{Puts};
 ghost use Rattle.answer.specs.Line.{totalLine, ranLine, totalWidth, ranWidth};
-ghost use Rattle.answer.specs.Answer.{noCommandText, maxAnswer};
+ghost use Rattle.answer.specs.Answer.{okText, noCommandText, maxAnswer};
 
 // The widest first line: `ran changes 65535 idle 65535`, its line feed counted.
 pub(crate) const RAN_WIDTH: usize = 29;
@@ -40,6 +42,17 @@ pub(crate) fn ran_line(text: &mut [u8], changes: u16, idle: u16) -> usize
     let mut end = put_named(&mut *text, 0, b"ran changes", changes as u64);
     end = put_named(&mut *text, end, b" idle", idle as u64);
     put(text, end, b"\n")
+}
+
+// `ok`, or the refusal.
+pub(crate) fn ok_line(text: &mut [u8], refusal: Refusal) -> usize
+    requires { ⌜ maxAnswer ≤ length (now text) ⌝ }
+    ensures { λ end. ⌜ Puts (now (text .entry)) 0 (okText refusal) (now (text .exit)) end ⌝ }
+{
+    if refusal.number != 0 {
+        return refusal_line(text, 0, refusal);
+    }
+    put(text, 0, b"ok\n")
 }
 
 // `no command: line N`

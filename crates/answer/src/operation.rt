@@ -1,10 +1,11 @@
-// Choose, Check and Run as text.
+// Choose, Check and Run as text, and what the book's calls answer.
 use crate::batches::BATCHES_WIDTH;
 use crate::batches::outcomes_line;
 use crate::batches::recipes_line;
 use crate::batches::stretches_line;
 use crate::line::RAN_WIDTH;
 use crate::line::no_command_line;
+use crate::line::ok_line;
 use crate::line::ran_line;
 use crate::line::total_line;
 use planner::check::Checked;
@@ -15,6 +16,8 @@ use planner::run::WeekRun;
 use planner::run::run;
 use text::line::refusal_line;
 use week::record::Week;
+use week::refusal::Refusal;
+ghost use Prim.Native.Nat.{min};
 ghost use mathlib.Core.Path.{_≡_};
 ghost use lib.ListN.{length};
 ghost use Rattle.io.specs.Counts.{Counts};
@@ -22,7 +25,8 @@ ghost use Rattle.planner.specs.Choose.{chooseAnswer, tableAfter};
 ghost use Rattle.planner.specs.Check.{checkAnswer};
 ghost use Rattle.planner.specs.Run.{runAnswer, logAfter};
 ghost use Rattle.text.specs.Contract.{Puts};
-ghost use Rattle.answer.specs.Answer.{textOf, planText, checkText, runText, noCommandText};
+ghost use Rattle.week.specs.Record.{maxBatches};
+ghost use Rattle.answer.specs.Answer.{textOf, planText, checkText, runText, okText, noCommandText};
 ghost use Rattle.answer.specs.Contract.{AnswerFits};
 
 // The longest answer: that of a run.
@@ -73,6 +77,27 @@ fn run_lines(text: &mut [u8], ran: WeekRun, n: usize) -> usize
     outcomes_line(text, end, ran, n)
 }
 
+// How many of n batches a plan has a recipe for.
+fn places(n: usize) -> usize
+    ensures { λ r. ⌜ r ≡ min n maxBatches ⌝ }
+{
+    if Week::MAX_BATCHES < n {
+        return Week::MAX_BATCHES;
+    }
+    n
+}
+
+// `choose`, `plan`: what is answered of a plan for a list of n batches.
+pub fn plan_text(plan: Plan, n: usize) -> AnswerText
+    ensures answer { λ r. ⌜ r ≡ textOf (planText n plan) ⌝ }
+    ensures fits { λ r. ⌜ Counts (r .len) (r .bytes) ⌝ }
+{
+    let m = places(n);
+    let mut bytes = [0; MAX_ANSWER];
+    let len = plan_lines(&mut bytes, plan, m);
+    AnswerText { bytes, len }
+}
+
 // `choose`: the answer on every list, and every byte of the table.
 pub fn choose_text(week: Week, table: &mut [u8]) -> AnswerText
     ensures answer { λ r. ⌜ r ≡ textOf (planText (week .count) (chooseAnswer week (length (now (table .entry))))) ⌝ }
@@ -80,9 +105,7 @@ pub fn choose_text(week: Week, table: &mut [u8]) -> AnswerText
     ensures fits { λ r. ⌜ Counts (r .len) (r .bytes) ⌝ }
 {
     let plan = choose(week, table);
-    let mut bytes = [0; MAX_ANSWER];
-    let len = plan_lines(&mut bytes, plan, week.count);
-    AnswerText { bytes, len }
+    plan_text(plan, week.count)
 }
 
 // `check K K ..`
@@ -105,6 +128,16 @@ pub fn run_text(week: Week, choice: &[u8], log: &mut [u8]) -> AnswerText
     let ran = run(week, choice, log);
     let mut bytes = [0; MAX_ANSWER];
     let len = run_lines(&mut bytes, ran, week.count);
+    AnswerText { bytes, len }
+}
+
+// `ok`, or the refusal: what is answered of a call that opens or changes the book.
+pub fn ok_text(refusal: Refusal) -> AnswerText
+    ensures answer { λ r. ⌜ r ≡ textOf (okText refusal) ⌝ }
+    ensures fits { λ r. ⌜ Counts (r .len) (r .bytes) ⌝ }
+{
+    let mut bytes = [0; MAX_ANSWER];
+    let len = ok_line(&mut bytes, refusal);
     AnswerText { bytes, len }
 }
 

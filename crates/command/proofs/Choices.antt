@@ -10,8 +10,7 @@ use lib.Seq.{length-take-le, getD-take, drop-cons}
 use lib.Dec.{leb}
 use borrow.Author.Tests.{leb-true, le-leb, lt-leb}
 use Rattle.arrays.specs.Made.{padded}
-use Rattle.arrays.proofs.Front.{front-step}
-use Rattle.arrays.proofs.Places.{drop-replicate}
+use Rattle.arrays.proofs.Front.{front-step, front-padded}
 use Rattle.words.specs.declared.numbers.Numbers.{Numbers}
 use Rattle.words.specs.Numbers.{maxKept}
 use Rattle.command.specs.Numbered.{maxByte, areBytes, isChoice}
@@ -94,5 +93,4 @@ module _ {values : List ℕ} {n i : ℕ} {recipes : List ℕ} (h : Copying value
   pub copying-end : n ≤ i → recipes ≡ padded maxKept 0 (take n values)
   copying-end over =
       let all : i ≡ n = omega (arith, h .within) in
-      let kept : length (take n values) ≡ n = length-take-le n values (omega (arith, h .size, h .short)) in
-      rw (h .copied, all, drop-replicate {A = ℕ} n maxKept 0 (h .short), kept)
+      rw (h .copied, all) (front-padded maxKept 0 values n (omega (arith, h .size, h .short)) (h .short))

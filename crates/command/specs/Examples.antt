@@ -18,12 +18,13 @@ use Rattle.words.specs.Numbers.{maxKept, areNumbers, numbersOf}
 use Rattle.command.specs.declared.command.Choice.{Choice}
 use Rattle.command.specs.declared.command.Kind.{Kind}
 use Rattle.command.specs.declared.command.Kind.the-variants.{Nothing, Unknown, Week, Batch as OneBatch, Table, Log, Choose, Check}
-use Rattle.command.specs.declared.command.Kind.the-variants.{Run, ShowTable, ShowLog, List as TheList, Sheet, Help}
+use Rattle.command.specs.declared.command.Kind.the-variants.{Run, ShowTable, ShowLog, List as TheList, Sheet, Open, Add, Withdraw}
+use Rattle.command.specs.declared.command.Kind.the-variants.{Plan, Book, Hold, Help}
 use Rattle.command.specs.declared.command.Command.{Command}
 use Rattle.command.specs.Record.{noChoice, ofKind, ofBatch, ofChoice}
 use Rattle.command.specs.Name.{nameAmong, nameOf}
 use Rattle.command.specs.Show.{shownKind, showCommand}
-use Rattle.command.specs.Numbered.{aloneCommand, weekCommand, batchFrom, batchCommand, lendsUpTo, tableCommand, logCommand}
+use Rattle.command.specs.Numbered.{exactlyCommand, batchFrom, batchCommand, lendsUpTo, tableCommand, logCommand}
 use Rattle.command.specs.Numbered.{areBytes, isChoice, choiceFrom, choiceCommand}
 use Rattle.command.specs.Command.{named, byWords, isComment, commandIn, commandOf}
 
@@ -42,7 +43,13 @@ kindNumbers ShowTable = 9 ∷ []
 kindNumbers ShowLog = 10 ∷ []
 kindNumbers TheList = 11 ∷ []
 kindNumbers Sheet = 12 ∷ []
-kindNumbers Help = 13 ∷ []
+kindNumbers (Open opening closing) = 13 ∷ opening ∷ closing ∷ []
+kindNumbers Add = 14 ∷ []
+kindNumbers (Withdraw number) = 15 ∷ number ∷ []
+kindNumbers Plan = 16 ∷ []
+kindNumbers Book = 17 ∷ []
+kindNumbers Hold = 18 ∷ []
+kindNumbers Help = 19 ∷ []
 
 abbrev recipeNumbers : Recipe → List ℕ
 recipeNumbers r = r .cost ∷ r .worth ∷ []
@@ -63,9 +70,9 @@ abbrev _asks_ : String → Kind → Example
 line asks kind = bytes line means ofKind kind
 
 -- the commands of a batch, of which recipes after the tenth are counted and not kept, and of a choice
-abbrev aBatch : (number arrival due count : ℕ) → List Recipe → Command
-aBatch number arrival due count recipes =
-    ofBatch record {
+abbrev aBatch : Kind → (number arrival due count : ℕ) → List Recipe → Command
+aBatch kind number arrival due count recipes =
+    ofBatch kind record {
       number = number;
       arrival = arrival;
       due = due;
@@ -91,9 +98,9 @@ table : List Example
 table =
     -- a week, and batches: with recipes, without one, and with eleven of them
     ("week 0 100" asks Week 0 100)
-    ∷ (bytes "batch 7 0 40 30 9 10 4" means aBatch 7 0 40 2 ((30 for 9) ∷ (10 for 4) ∷ []))
-    ∷ (bytes "batch 8 20 60" means aBatch 8 20 60 0 [])
-    ∷ (ones "batch" 25 means aBatch 1 1 1 11 (replicate 10 (1 for 1)))
+    ∷ (bytes "batch 7 0 40 30 9 10 4" means aBatch OneBatch 7 0 40 2 ((30 for 9) ∷ (10 for 4) ∷ []))
+    ∷ (bytes "batch 8 20 60" means aBatch OneBatch 8 20 60 0 [])
+    ∷ (ones "batch" 25 means aBatch OneBatch 1 1 1 11 (replicate 10 (1 for 1)))
     -- what is lent: "V may be left out and is 0 then"; "At most 40,000 and 4,000 bytes"
     ∷ ("table 303 9" asks Table 303 9)
     ∷ ("table 40000 255" asks Table 40000 255)
@@ -116,6 +123,15 @@ table =
     ∷ ("list" asks TheList)
     ∷ ("sheet" asks Sheet)
     ∷ ("help" asks Help)
+    -- of the book
+    ∷ ("open 0 100" asks Open 0 100)
+    ∷ (bytes "add 7 0 40 30 9 10 4" means aBatch Add 7 0 40 2 ((30 for 9) ∷ (10 for 4) ∷ []))
+    ∷ (bytes "add 8 20 60" means aBatch Add 8 20 60 0 [])
+    ∷ (ones "add" 25 means aBatch Add 1 1 1 11 (replicate 10 (1 for 1)))
+    ∷ ("withdraw 65535" asks Withdraw 65535)
+    ∷ ("plan" asks Plan)
+    ∷ ("book" asks Book)
+    ∷ ("hold" asks Hold)
     -- spaces before, between and after words
     ∷ ("  week  0   100 " asks Week 0 100)
     -- what is passed over
@@ -139,6 +155,16 @@ table =
     ∷ ("show week" asks Unknown)
     ∷ ("show table log" asks Unknown)
     ∷ ("help\t" asks Unknown)
+    ∷ ("open 0" asks Unknown)
+    ∷ ("open 0 100 1" asks Unknown)
+    ∷ ("add 7 0" asks Unknown)
+    ∷ ("add 7 0 40 30" asks Unknown)
+    ∷ ("withdraw" asks Unknown)
+    ∷ ("withdraw 7 8" asks Unknown)
+    ∷ ("withdraw 65536" asks Unknown)
+    ∷ ("plan 1" asks Unknown)
+    ∷ ("book 1" asks Unknown)
+    ∷ ("hold 1" asks Unknown)
     -- "longer than 4,096 bytes": spaces count; but a comment of any length is passed over
     ∷ (spaces "help" 4092 means ofKind Help)
     ∷ (spaces "help" 4093 means ofKind Unknown)
@@ -151,6 +177,6 @@ table =
 examples : agree table ≡ true
 unfolding
     table same agree flatten withByte withBytes joined partsOf someBytes wordsOf areDigits isNumber areNumbers numbersOf
-    noChoice nameAmong nameOf shownKind showCommand aloneCommand weekCommand batchFrom batchCommand lendsUpTo tableCommand logCommand
+    noChoice nameAmong nameOf shownKind showCommand exactlyCommand batchFrom batchCommand lendsUpTo tableCommand logCommand
     areBytes isChoice choiceFrom choiceCommand named byWords isComment commandIn commandOf
 examples = refl

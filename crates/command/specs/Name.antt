@@ -20,6 +20,12 @@ names =
     ∷ (bytes "show", name.Show)
     ∷ (bytes "list", name.List)
     ∷ (bytes "sheet", name.Sheet)
+    ∷ (bytes "open", name.Open)
+    ∷ (bytes "add", name.Add)
+    ∷ (bytes "withdraw", name.Withdraw)
+    ∷ (bytes "plan", name.Plan)
+    ∷ (bytes "book", name.Book)
+    ∷ (bytes "hold", name.Hold)
     ∷ (bytes "help", name.Help)
     ∷ []
 

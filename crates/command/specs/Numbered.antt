@@ -21,16 +21,13 @@ use Rattle.command.specs.Record.{ofKind, ofBatch, ofChoice, knownIf}
 abbrev pub valueAt : List ℕ → ℕ → ℕ
 valueAt values i = getD values i 0
 
--- "choose", "list", "sheet", "help"
-unfoldable pub aloneCommand : Kind → Numbers → Command
-aloneCommand k numbers = knownIf (numbers .valid && eqb (numbers .count) 0) (ofKind k)
+-- a command with so many numbers after its name: none after `choose`, `list`, `sheet`, `plan`, `book`, `hold` and `help`; one after
+-- `withdraw`; two after `week` and `open`
+unfoldable pub exactlyCommand : ℕ → Kind → Numbers → Command
+exactlyCommand n k numbers = knownIf (numbers .valid && eqb (numbers .count) n) (ofKind k)
 
--- "week T C"
-unfoldable pub weekCommand : Numbers → Command
-weekCommand numbers =
-    knownIf (numbers .valid && eqb (numbers .count) 2) (ofKind (kind.Week (valueAt (numbers .values) 0) (valueAt (numbers .values) 1)))
-
--- "batch NUMBER R D COST WORTH COST WORTH ..": "any number of recipes (the count as written, the first ten kept ..)"
+-- "batch NUMBER R D COST WORTH COST WORTH ..", "add NUMBER R D COST WORTH ..": "any number of recipes (the count as written, the first
+-- ten kept ..)"
 abbrev pub recipeFrom : List ℕ → ℕ → Recipe
 recipeFrom values k = record { cost = valueAt values (3 + 2 * k); worth = valueAt values (4 + 2 * k) }
 
@@ -46,9 +43,9 @@ batchFrom numbers =
       recipes = padded maxRecipes noRecipe (tabulate (recipeFrom values) 0 (min count maxRecipes));
     }
 
-unfoldable pub batchCommand : Numbers → Command
-batchCommand numbers =
-    knownIf (numbers .valid && leb 3 (numbers .count) && eqb (numbers .count % 2) 1) (ofBatch (batchFrom numbers))
+unfoldable pub batchCommand : Kind → Numbers → Command
+batchCommand k numbers =
+    knownIf (numbers .valid && leb 3 (numbers .count) && eqb (numbers .count % 2) 1) (ofBatch k (batchFrom numbers))
 
 -- "table SIZE V", "log SIZE V": "V may be left out and is 0 then"; "At most 40,000 and 4,000 bytes; above that, no command."; "the
 -- byte V, is at most 255"

@@ -15,8 +15,8 @@ noChoice = record { count = 0; recipes = replicate maxKept 0 }
 abbrev pub ofKind : Kind → Command
 ofKind k = record { kind = k; batch = emptyBatch; choice = noChoice }
 
-abbrev pub ofBatch : Batch → Command
-ofBatch batch = record { kind = kind.Batch; batch = batch; choice = noChoice }
+abbrev pub ofBatch : Kind → Batch → Command
+ofBatch k batch = record { kind = k; batch = batch; choice = noChoice }
 
 abbrev pub ofChoice : Kind → Choice → Command
 ofChoice k choice = record { kind = k; batch = emptyBatch; choice = choice }

@@ -39,6 +39,13 @@ pub enum Kind {
     ShowLog,
     List,
     Sheet,
+    // Of the book: `add` with its batch.
+    Open { opening: u16, closing: u16 },
+    Add,
+    Withdraw { number: u16 },
+    Plan,
+    Book,
+    Hold,
     Help,
 }
 
@@ -61,11 +68,11 @@ impl Command {
         }
     }
 
-    pub(crate) fn of_batch(batch: Batch) -> Command
-        ensures { λ r. ⌜ r ≡ ofBatch batch ⌝ }
+    pub(crate) fn of_batch(kind: Kind, batch: Batch) -> Command
+        ensures { λ r. ⌜ r ≡ ofBatch kind batch ⌝ }
     {
         Command {
-            kind: Kind::Batch,
+            kind,
             batch,
             choice: Choice::empty(),
         }

@@ -8,12 +8,11 @@ use crate::command::Command;
 use crate::command::Kind;
 use crate::name::Name;
 use crate::name::name_of;
-use crate::numbered::alone;
 use crate::numbered::batch_command;
 use crate::numbered::choice_command;
+use crate::numbered::exactly;
 use crate::numbered::log_command;
 use crate::numbered::table_command;
-use crate::numbered::week_command;
 use crate::show::show_command;
 use words::line::Line;
 use words::line::MAX_LINE;
@@ -31,18 +30,41 @@ fn command_named(name: Name, line: &[u8], at: usize) -> Command
     ensures { λ r. ⌜ r ≡ named name (wordsOf (drop at (now (line .entry)))) ⌝ }
 {
     let numbers = numbers_from(line, at);
+    let values = numbers.values;
+    let first = values[0];
+    let second = values[1];
     match name {
-        Name::Week => week_command(numbers),
-        Name::Batch => batch_command(numbers),
+        Name::Week => exactly(
+            2,
+            Kind::Week {
+                opening: first,
+                closing: second,
+            },
+            numbers,
+        ),
+        Name::Batch => batch_command(Kind::Batch, numbers),
         Name::Table => table_command(numbers),
         Name::Log => log_command(numbers),
-        Name::Choose => alone(Kind::Choose, numbers),
+        Name::Choose => exactly(0, Kind::Choose, numbers),
         Name::Check => choice_command(Kind::Check, numbers),
         Name::Run => choice_command(Kind::Run, numbers),
         Name::Show => show_command(line, at),
-        Name::List => alone(Kind::List, numbers),
-        Name::Sheet => alone(Kind::Sheet, numbers),
-        Name::Help => alone(Kind::Help, numbers),
+        Name::List => exactly(0, Kind::List, numbers),
+        Name::Sheet => exactly(0, Kind::Sheet, numbers),
+        Name::Open => exactly(
+            2,
+            Kind::Open {
+                opening: first,
+                closing: second,
+            },
+            numbers,
+        ),
+        Name::Add => batch_command(Kind::Add, numbers),
+        Name::Withdraw => exactly(1, Kind::Withdraw { number: first }, numbers),
+        Name::Plan => exactly(0, Kind::Plan, numbers),
+        Name::Book => exactly(0, Kind::Book, numbers),
+        Name::Hold => exactly(0, Kind::Hold, numbers),
+        Name::Help => exactly(0, Kind::Help, numbers),
         Name::Unknown => Command::of_kind(Kind::Unknown),
     }
 }

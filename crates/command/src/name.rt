@@ -14,6 +14,12 @@ pub(crate) enum Name {
     Show,
     List,
     Sheet,
+    Open,
+    Add,
+    Withdraw,
+    Plan,
+    Book,
+    Hold,
     Help,
     Unknown,
 }
@@ -66,6 +72,24 @@ pub(crate) fn name_of(word: &[u8]) -> Name
     }
     if is_same(word, b"sheet") {
         return Name::Sheet;
+    }
+    if is_same(word, b"open") {
+        return Name::Open;
+    }
+    if is_same(word, b"add") {
+        return Name::Add;
+    }
+    if is_same(word, b"withdraw") {
+        return Name::Withdraw;
+    }
+    if is_same(word, b"plan") {
+        return Name::Plan;
+    }
+    if is_same(word, b"book") {
+        return Name::Book;
+    }
+    if is_same(word, b"hold") {
+        return Name::Hold;
     }
     if is_same(word, b"help") {
         return Name::Help;

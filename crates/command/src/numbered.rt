@@ -11,31 +11,17 @@ use words::numbers::Numbers;
 ghost use mathlib.Core.Path.{_≡_};
 ghost use mathlib.Core.Bool.{true};
 ghost use Prim.Native.Nat.{_≤_};
-ghost use Rattle.command.specs.Numbered.{aloneCommand, weekCommand, batchFrom, batchCommand, lendsUpTo, tableCommand, logCommand};
+ghost use Rattle.command.specs.Numbered.{exactlyCommand, batchFrom, batchCommand, lendsUpTo, tableCommand, logCommand};
 ghost use Rattle.command.specs.Numbered.{isChoice, choiceFrom, choiceCommand};
 
 const MAX_BYTE: u16 = 255;
 
-// A command with nothing after its name.
-pub(crate) fn alone(kind: Kind, numbers: Numbers) -> Command
-    ensures { λ r. ⌜ r ≡ aloneCommand kind numbers ⌝ }
+// A command with so many numbers after its name, and nothing else.
+pub(crate) fn exactly(n: usize, kind: Kind, numbers: Numbers) -> Command
+    ensures { λ r. ⌜ r ≡ exactlyCommand n kind numbers ⌝ }
 {
-    if numbers.valid && numbers.count == 0 {
+    if numbers.valid && numbers.count == n {
         return Command::of_kind(kind);
-    }
-    Command::of_kind(Kind::Unknown)
-}
-
-// `week T C`
-pub(crate) fn week_command(numbers: Numbers) -> Command
-    ensures { λ r. ⌜ r ≡ weekCommand numbers ⌝ }
-{
-    let values = numbers.values;
-    if numbers.valid && numbers.count == 2 {
-        return Command::of_kind(Kind::Week {
-            opening: values[0],
-            closing: values[1],
-        });
     }
     Command::of_kind(Kind::Unknown)
 }
@@ -62,12 +48,12 @@ fn batch_from(numbers: Numbers) -> Batch
     batch
 }
 
-// `batch NUMBER R D COST WORTH COST WORTH ..`
-pub(crate) fn batch_command(numbers: Numbers) -> Command
-    ensures { λ r. ⌜ r ≡ batchCommand numbers ⌝ }
+// `batch NUMBER R D COST WORTH COST WORTH ..`, `add NUMBER R D COST WORTH ..`
+pub(crate) fn batch_command(kind: Kind, numbers: Numbers) -> Command
+    ensures { λ r. ⌜ r ≡ batchCommand kind numbers ⌝ }
 {
     if numbers.valid && 3 <= numbers.count && numbers.count % 2 == 1 {
-        return Command::of_batch(batch_from(numbers));
+        return Command::of_batch(kind, batch_from(numbers));
     }
     Command::of_kind(Kind::Unknown)
 }

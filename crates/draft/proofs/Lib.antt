@@ -1,4 +1,5 @@
 pub mod Kept
+pub mod HandedBack
 pub mod Owned
 pub mod Printed
 pub mod Framed

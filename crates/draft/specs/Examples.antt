@@ -17,7 +17,7 @@ use Rattle.week.specs.Refusal.{refusedIf, orElse, firstOf, first, unlessRefused
 use Rattle.text.specs.Decimal.{spelt, decimal}
 use Rattle.text.specs.Line.{spaced, weekLine, refusalLine}
 use Rattle.draft.specs.declared.record.Draft.{Draft}
-use Rattle.draft.specs.Record.{emptyDraft, withBatch, withBatches, weekOf}
+use Rattle.draft.specs.Record.{emptyDraft, withBatch, withBatches, weekOf, ofWeek}
 use Rattle.draft.specs.List.{batchLine, batchLines, listLines}
 use Rattle.draft.specs.Sheet.{hexDigit, hexByte, hexValue, weekFrame, recipesPart, batchFrame, unkept, sheetFault}
 use Rattle.draft.specs.Sheet.{batchFrames, sheetFrames, sheetLines}
@@ -91,6 +91,11 @@ table =
     -- "the first 16 of them and the count"
     ∷ (hands (weekOf (numbered 2)) is (0 ∷ 9 ∷ 2 ∷ 16 ∷ 1 ∷ 0 ∷ []))
     ∷ (hands (weekOf (numbered 17)) is (0 ∷ 9 ∷ 17 ∷ 16 ∷ 1 ∷ 16 ∷ []))
+    -- "the book's list as `list` prints one": of case W, and of seventeen batches, whose last a list by value has not got
+    ∷ (ofWeek (weekOf caseW)
+    prints "week 0 100\nbatch 7 0 40 30 9 10 4\nbatch 8 20 60 30 8 0 0\nbatch 9 0 100 50 10 20 5\n")
+    ∷ (holds (ofWeek (weekOf (numbered 17))) is (17 ∷ 64 ∷ 0 ∷ 18 ∷ []))
+    ∷ (hands (weekOf (ofWeek (weekOf (numbered 17)))) is (0 ∷ 9 ∷ 17 ∷ 16 ∷ 1 ∷ 16 ∷ []))
     -- case W as its sheet; a new list; no recipe, and ten
     ∷ (caseW
     frames
@@ -109,7 +114,7 @@ table =
 
 examples : agree table ≡ true
 unfolding
-    table same agree flatten caseW numbered withBatch withBatches weekOf spelt decimal spaced weekLine batchLine batchLines listLines
+    table same agree flatten caseW numbered withBatch withBatches weekOf ofWeek spelt decimal spaced weekLine batchLine batchLines listLines
     refusedIf orElse firstOf first unlessRefused answerBy refusalLine
     hexDigit hexByte hexValue weekFrame recipesPart batchFrame unkept sheetFault batchFrames sheetFrames sheetLines
 examples = refl

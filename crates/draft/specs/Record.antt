@@ -57,3 +57,8 @@ weekHanded t c bs =
       count = min (length bs) (suc maxKept);
       batches = padded maxBatches emptyBatch (take maxBatches bs);
     }
+
+-- "`book`": "the book's list as `list` prints one": a list by value as one that is written down, with empty batches beyond its places
+unfoldable pub ofWeek : Week → Draft
+ofWeek w =
+    record { opening = w .opening; closing = w .closing; count = w .count; batches = padded maxKept emptyBatch (w .batches) }

@@ -2,7 +2,7 @@
 use week::record::Batch;
 use week::record::Week;
 ghost use mathlib.Core.Path.{_≡_};
-ghost use Rattle.draft.specs.Record.{emptyDraft, withBatch, weekOf};
+ghost use Rattle.draft.specs.Record.{emptyDraft, withBatch, weekOf, ofWeek};
 
 // The batches are counted up to one more than are kept, so that more is told from it.
 pub struct Draft {
@@ -53,5 +53,18 @@ impl Draft {
         }
         week.count = self.count;
         week
+    }
+
+    // A list by value as a list that is written down: of a count above 16 the batches that it has not got are empty.
+    pub fn of_week(week: Week) -> Draft
+        ensures { λ r. ⌜ r ≡ ofWeek week ⌝ }
+    {
+        let mut draft = Draft::empty(week.opening, week.closing);
+        for i in 0..week.batches.len() {
+            let batch = week.batches[i];
+            draft.batches[i] = batch;
+        }
+        draft.count = week.count;
+        draft
     }
 }

@@ -5,7 +5,14 @@ use answer::operation::AnswerText;
 use answer::operation::check_text;
 use answer::operation::choose_text;
 use answer::operation::no_command_text;
+use answer::operation::ok_text;
+use answer::operation::plan_text;
 use answer::operation::run_text;
+use book::add::add;
+use book::book::Answered;
+use book::book::Book;
+use book::open::open;
+use book::withdraw::withdraw;
 use command::command::Choice;
 use command::command::Kind;
 use command::command_of;
@@ -105,8 +112,8 @@ fn show(desk: Desk, word: &[u8], lent: &[u8], size: usize) -> Desk {
     write(desk, &bytes[0..len])
 }
 
-fn list(desk: Desk) -> Desk {
-    let text = list_text(desk.draft);
+fn list(desk: Desk, draft: Draft) -> Desk {
+    let text = list_text(draft);
     let bytes = text.bytes;
     let len = text.len;
     write(desk, &bytes[0..len])
@@ -117,6 +124,38 @@ fn sheet(desk: Desk) -> Desk {
     let bytes = text.bytes;
     let len = text.len;
     write(desk, &bytes[0..len])
+}
+
+// `open`, `add`, `withdraw`: the book that the call hands back, and `ok` or the refusal.
+fn keep(mut desk: Desk, answered: Answered) -> Desk {
+    let book = answered.book;
+    desk.book = book;
+    say(desk, ok_text(answered.refusal))
+}
+
+// `plan`: as `choose`, of the list that the book holds.
+fn plan(mut desk: Desk, table: &mut [u8]) -> Desk {
+    let book = desk.book;
+    let list = book.list;
+    let n = within(desk.table, table);
+    let planned = book::plan::plan(book, &mut table[0..n]);
+    let after = planned.book;
+    desk.book = after;
+    say(desk, plan_text(planned.plan, list.count))
+}
+
+// `hold`: "the book now holds the list written down, as it stands".
+fn hold(mut desk: Desk) -> Desk {
+    let draft = desk.draft;
+    let book = Book { list: draft.week() };
+    desk.book = book;
+    desk
+}
+
+// `book`: "the book's list as `list` prints one".
+fn print_book(desk: Desk) -> Desk {
+    let book = desk.book;
+    list(desk, Draft::of_week(book.list))
 }
 
 fn help(desk: Desk) -> Desk {
@@ -140,8 +179,14 @@ pub(crate) fn obey(before: Desk, table: &mut [u8], log: &mut [u8]) -> Desk {
         Kind::Run => run(desk, command.choice, log),
         Kind::ShowTable => show(desk, b"table", table, desk.table),
         Kind::ShowLog => show(desk, b"log", log, desk.log),
-        Kind::List => list(desk),
+        Kind::List => list(desk, desk.draft),
         Kind::Sheet => sheet(desk),
+        Kind::Open { opening, closing } => keep(desk, open(opening, closing)),
+        Kind::Add => keep(desk, add(desk.book, command.batch)),
+        Kind::Withdraw { number } => keep(desk, withdraw(desk.book, number)),
+        Kind::Plan => plan(desk, table),
+        Kind::Book => print_book(desk),
+        Kind::Hold => hold(desk),
         Kind::Help => help(desk),
     }
 }

@@ -1,4 +1,5 @@
-// What the desk has written down, and what it has lent.
+// What the desk has written down, its book, and what it has lent.
+use book::book::Book;
 use draft::record::Draft;
 use planner::choose::MAX_PICKS;
 use week::record::Week;
@@ -7,6 +8,7 @@ use words::line::Line;
 pub(crate) struct Desk {
     // The list.
     pub draft: Draft,
+    pub book: Book,
     // The bytes of the picks table and of the log that are lent.
     pub table: usize,
     pub log: usize,
@@ -18,10 +20,13 @@ pub(crate) struct Desk {
 }
 
 impl Desk {
-    // At the start the list is `week 0 0`, and table and log are as long as any list needs.
+    // At the start the list is `week 0 0`, the book is an empty one of that week, and table and log are as long as any list needs.
     pub fn at_start() -> Desk {
         Desk {
             draft: Draft::empty(0, 0),
+            book: Book {
+                list: Week::empty(0, 0),
+            },
             table: MAX_PICKS,
             log: Week::MAX_MINUTES as usize,
             line: Line::empty(),

@@ -15,6 +15,12 @@ run K K ..: the station's week under a choice, its changes, its idle minutes and
 show table, show log: every byte lent, in runs, as 2x20 for twenty bytes that are 2
 list: the list, as the commands that write it down
 sheet: the list, as the publisher's sheet
+open T C: a new book, of no batches, from T to C
+add NUMBER R D COST WORTH COST WORTH ..: one batch more in the book, put in order
+withdraw NUMBER: the book without the batch of that number
+plan: as choose, of the book
+book: the book's list, as list prints one
+hold: the book now holds the list written down, as it stands
 help: these lines
 ",
     )

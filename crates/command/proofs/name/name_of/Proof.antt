@@ -39,6 +39,24 @@ start-10 c = start-9 (c .before .before .before)
 abbrev start-11 : tie.Else11 → tie.Start
 start-11 c = start-10 (c .before .before .before)
 
+abbrev start-12 : tie.Else12 → tie.Start
+start-12 c = start-11 (c .before .before .before)
+
+abbrev start-13 : tie.Else13 → tie.Start
+start-13 c = start-12 (c .before .before .before)
+
+abbrev start-14 : tie.Else14 → tie.Start
+start-14 c = start-13 (c .before .before .before)
+
+abbrev start-15 : tie.Else15 → tie.Start
+start-15 c = start-14 (c .before .before .before)
+
+abbrev start-16 : tie.Else16 → tie.Start
+start-16 c = start-15 (c .before .before .before)
+
+abbrev start-17 : tie.Else17 → tie.Start
+start-17 c = start-16 (c .before .before .before)
+
 past-1 : (c : tie.Else1) → Past (start-1 c .args .word .now) (drop 1 names)
 past-1 c = past-more (past-none (start-1 c .args .word .now)) (c .before .is-same .ensures) (c .if1 .left)
 
@@ -71,6 +89,24 @@ past-10 c = past-more (past-9 (c .before .before .before)) (c .before .is-same10
 
 past-11 : (c : tie.Else11) → Past (start-11 c .args .word .now) (drop 11 names)
 past-11 c = past-more (past-10 (c .before .before .before)) (c .before .is-same11 .ensures) (c .if11 .left)
+
+past-12 : (c : tie.Else12) → Past (start-12 c .args .word .now) (drop 12 names)
+past-12 c = past-more (past-11 (c .before .before .before)) (c .before .is-same12 .ensures) (c .if12 .left)
+
+past-13 : (c : tie.Else13) → Past (start-13 c .args .word .now) (drop 13 names)
+past-13 c = past-more (past-12 (c .before .before .before)) (c .before .is-same13 .ensures) (c .if13 .left)
+
+past-14 : (c : tie.Else14) → Past (start-14 c .args .word .now) (drop 14 names)
+past-14 c = past-more (past-13 (c .before .before .before)) (c .before .is-same14 .ensures) (c .if14 .left)
+
+past-15 : (c : tie.Else15) → Past (start-15 c .args .word .now) (drop 15 names)
+past-15 c = past-more (past-14 (c .before .before .before)) (c .before .is-same15 .ensures) (c .if15 .left)
+
+past-16 : (c : tie.Else16) → Past (start-16 c .args .word .now) (drop 16 names)
+past-16 c = past-more (past-15 (c .before .before .before)) (c .before .is-same16 .ensures) (c .if16 .left)
+
+past-17 : (c : tie.Else17) → Past (start-17 c .args .word .now) (drop 17 names)
+past-17 c = past-more (past-16 (c .before .before .before)) (c .before .is-same17 .ensures) (c .if17 .left)
 
 slice-aggregate-is-same : tie.Need-slice-aggregate-is-same
 slice-aggregate-is-same c = search needs
@@ -171,8 +207,62 @@ is-same-requires-11 c κs = search needs
 returns-11 : tie.Need-returns-11
 returns-11 c = past-here (past-10 (c .before .before .before)) (c .before .is-same11 .ensures) (c .if11 .taken)
 
+slice-aggregate-is-same-12 : tie.Need-slice-aggregate-is-same-12
+slice-aggregate-is-same-12 c = search needs
+
+is-same-requires-12 : tie.Need-is-same-requires-12
+is-same-requires-12 c κs = search needs
+
 returns-12 : tie.Need-returns-12
-returns-12 c = past-all (past-11 c)
+returns-12 c = past-here (past-11 (c .before .before .before)) (c .before .is-same12 .ensures) (c .if12 .taken)
+
+slice-aggregate-is-same-13 : tie.Need-slice-aggregate-is-same-13
+slice-aggregate-is-same-13 c = search needs
+
+is-same-requires-13 : tie.Need-is-same-requires-13
+is-same-requires-13 c κs = search needs
+
+returns-13 : tie.Need-returns-13
+returns-13 c = past-here (past-12 (c .before .before .before)) (c .before .is-same13 .ensures) (c .if13 .taken)
+
+slice-aggregate-is-same-14 : tie.Need-slice-aggregate-is-same-14
+slice-aggregate-is-same-14 c = search needs
+
+is-same-requires-14 : tie.Need-is-same-requires-14
+is-same-requires-14 c κs = search needs
+
+returns-14 : tie.Need-returns-14
+returns-14 c = past-here (past-13 (c .before .before .before)) (c .before .is-same14 .ensures) (c .if14 .taken)
+
+slice-aggregate-is-same-15 : tie.Need-slice-aggregate-is-same-15
+slice-aggregate-is-same-15 c = search needs
+
+is-same-requires-15 : tie.Need-is-same-requires-15
+is-same-requires-15 c κs = search needs
+
+returns-15 : tie.Need-returns-15
+returns-15 c = past-here (past-14 (c .before .before .before)) (c .before .is-same15 .ensures) (c .if15 .taken)
+
+slice-aggregate-is-same-16 : tie.Need-slice-aggregate-is-same-16
+slice-aggregate-is-same-16 c = search needs
+
+is-same-requires-16 : tie.Need-is-same-requires-16
+is-same-requires-16 c κs = search needs
+
+returns-16 : tie.Need-returns-16
+returns-16 c = past-here (past-15 (c .before .before .before)) (c .before .is-same16 .ensures) (c .if16 .taken)
+
+slice-aggregate-is-same-17 : tie.Need-slice-aggregate-is-same-17
+slice-aggregate-is-same-17 c = search needs
+
+is-same-requires-17 : tie.Need-is-same-requires-17
+is-same-requires-17 c κs = search needs
+
+returns-17 : tie.Need-returns-17
+returns-17 c = past-here (past-16 (c .before .before .before)) (c .before .is-same17 .ensures) (c .if17 .taken)
+
+returns-18 : tie.Need-returns-18
+returns-18 c = past-all (past-17 c)
 
 pub name-of-spec : {M : Type 1} → statement M
 name-of-spec =
@@ -211,4 +301,22 @@ name-of-spec =
     slice-aggregate-is-same-11
     is-same-requires-11
     returns-11
-    returns-12)
+    slice-aggregate-is-same-12
+    is-same-requires-12
+    returns-12
+    slice-aggregate-is-same-13
+    is-same-requires-13
+    returns-13
+    slice-aggregate-is-same-14
+    is-same-requires-14
+    returns-14
+    slice-aggregate-is-same-15
+    is-same-requires-15
+    returns-15
+    slice-aggregate-is-same-16
+    is-same-requires-16
+    returns-16
+    slice-aggregate-is-same-17
+    is-same-requires-17
+    returns-17
+    returns-18)
