@@ -19,7 +19,7 @@ use std::process::ExitCode;
 type Contract = (&'static str, &'static str);
 
 /// The planner's operations.
-const PLANNER: [Contract; 9] = [
+const PLANNER: [Contract; 13] = [
     ("crates/planner/src/check.rt", "check"),
     ("crates/planner/src/choose.rt", "choose"),
     ("crates/planner/src/choose.rt", "table_fault"),
@@ -29,21 +29,28 @@ const PLANNER: [Contract; 9] = [
     ("crates/sheet/src/read.rt", "read"),
     ("crates/report/src/lib.rt", "report"),
     ("crates/weekplan_c/src/lib.rt", "weekplan_choose"),
+    ("crates/book/src/open.rt", "open"),
+    ("crates/book/src/add.rt", "add"),
+    ("crates/book/src/withdraw.rt", "withdraw"),
+    ("crates/book/src/plan.rt", "plan"),
 ];
 
 /// What weekdesk is made of: its lines and commands, what it writes down and lends, and what it answers.
-const WEEKDESK: [Contract; 12] = [
+const WEEKDESK: [Contract; 15] = [
     ("crates/words/src/line.rt", "extended"),
     ("crates/command/src/lib.rt", "command_of"),
     ("crates/draft/src/record.rt", "empty"),
     ("crates/draft/src/record.rt", "with_batch"),
     ("crates/draft/src/record.rt", "week"),
+    ("crates/draft/src/record.rt", "of_week"),
     ("crates/draft/src/list.rt", "list_text"),
     ("crates/draft/src/sheet.rt", "sheet_text"),
     ("crates/lent/src/shown.rt", "shown_text"),
     ("crates/answer/src/operation.rt", "choose_text"),
+    ("crates/answer/src/operation.rt", "plan_text"),
     ("crates/answer/src/operation.rt", "check_text"),
     ("crates/answer/src/operation.rt", "run_text"),
+    ("crates/answer/src/operation.rt", "ok_text"),
     ("crates/answer/src/operation.rt", "no_command_text"),
 ];
 

@@ -1,7 +1,6 @@
 //! Faults of a list, put into a well-formed week on purpose: document 01, "The desk, with a list".
 
 use crate::chance::Chance;
-use crate::weeks::put_in_order;
 use reference::{Batch, Recipe, Week};
 
 /// A fault of this refusal, and now and then a second one of any, where the first has left every batch a recipe.
@@ -27,6 +26,17 @@ pub fn put_in(chance: &mut Chance, week: &mut Week, refusal: usize) {
             let at = chance.below(week.batches.len());
             put_in_batch(chance, &mut week.batches[at], closing, refusal);
         }
+    }
+}
+
+/// Makes the condition of a refusal from 4 to 9 hold of a batch that has a recipe and is to be added to this list.
+pub fn put_in_new(chance: &mut Chance, batch: &mut Batch, list: &Week, refusal: usize) {
+    if refusal != 9 {
+        put_in_batch(chance, batch, list.closing, refusal);
+    } else if list.batches.is_empty() || chance.one_in(4) {
+        batch.number = 0;
+    } else {
+        batch.number = list.batches[chance.below(list.batches.len())].number;
     }
 }
 
@@ -63,7 +73,7 @@ fn many_batches(chance: &mut Chance, week: &mut Week) {
         batch.number = chance.value(1..=u16::MAX);
         week.batches.push(batch);
     }
-    put_in_order(week);
+    week.put_in_order();
 }
 
 /// 4: no recipe, or 11 and more.

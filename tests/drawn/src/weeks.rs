@@ -43,16 +43,12 @@ pub fn week(chance: &mut Chance, shape: &Shape) -> Week {
         aside: chance.below(5),
         parts: chance.one_of(&[1, 2, 8]),
     };
-    let mut week = Week {
-        opening,
-        closing: opening + minutes,
-        batches: Vec::new(),
-    };
+    let mut week = Week::empty(opening, opening + minutes);
     for number in numbers(chance, count) {
         let batch = batch(chance, &week, &habit, number);
         week.batches.push(batch);
     }
-    put_in_order(&mut week);
+    week.put_in_order();
     week
 }
 
@@ -126,10 +122,4 @@ fn cost(chance: &mut Chance, habit: &Habit) -> u16 {
     } else {
         chance.value(1..=habit.greatest_cost)
     }
-}
-
-pub fn put_in_order(week: &mut Week) {
-    let mut batches = std::mem::take(&mut week.batches);
-    batches.sort_by_key(|batch| week.order(batch));
-    week.batches = batches;
 }

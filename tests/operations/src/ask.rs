@@ -9,7 +9,7 @@ use reference::{Batch, Outcome, Run, Week};
 
 pub fn operation(script: &mut Script, chance: &mut Chance) {
     match chance.below(16) {
-        0..=4 => choose(script),
+        0..=4 => drop(choose(script, &CHOOSE)),
         5..=8 => check(script, chance),
         9..=12 => run(script, chance),
         13 => drop(list(script)),
@@ -19,28 +19,66 @@ pub fn operation(script: &mut Script, chance: &mut Chance) {
     }
 }
 
-/// Choose, then every byte of the table.
-fn choose(script: &mut Script) {
+/// Choosing from the list or planning the book, and what is shown by it.
+pub struct Choosing {
+    command: &'static str,
+    of: fn(&Desk) -> &Week,
+    by_every_choice: &'static str,
+    by_the_recursion: &'static str,
+    of_a_full_week: &'static str,
+    table: &'static str,
+    table_after_a_refusal: &'static str,
+    table_filled_on_14: &'static str,
+    table_with_bytes_kept: &'static str,
+}
+
+pub const CHOOSE: Choosing = Choosing {
+    command: "choose",
+    of: |desk| &desk.week,
+    by_every_choice: "planned by every choice",
+    by_the_recursion: "planned by the recursion",
+    of_a_full_week: "planned by the recursion, a full week",
+    table: "a table",
+    table_after_a_refusal: "a table after a refusal",
+    table_filled_on_14: "a table filled on 14",
+    table_with_bytes_kept: "a table with bytes that are kept",
+};
+
+pub const PLAN: Choosing = Choosing {
+    command: "plan",
+    of: |desk| &desk.book.list,
+    by_every_choice: "a book planned by every choice",
+    by_the_recursion: "a book planned by the recursion",
+    of_a_full_week: "a book planned by the recursion, a full week",
+    table: "a book's table",
+    table_after_a_refusal: "a book's table after a refusal",
+    table_filled_on_14: "a book's table filled on 14",
+    table_with_bytes_kept: "a book's table with bytes that are kept",
+};
+
+/// The plan, then every byte of the table.
+pub fn choose(script: &mut Script, choosing: &Choosing) -> [String; 2] {
     let before = script.desk.table.clone();
-    let answer = script.say("choose");
+    let answer = script.say(choosing.command);
     let no_plan = answer.starts_with("refused 14 ");
     let refused = answer.starts_with("refused ") && !no_plan;
     if !refused {
-        let planned = planned(&script.desk.week);
+        let planned = choosing.planned(&script.desk);
         script.shows(planned);
     }
-    let Desk { week, table, .. } = &script.desk;
+    let (list, table) = ((choosing.of)(&script.desk), &script.desk.table);
     let left = if refused {
-        "a table after a refusal"
+        choosing.table_after_a_refusal
     } else if no_plan && *table != before {
-        "a table filled on 14"
-    } else if keeps(table, week.entries()) {
-        "a table with bytes that are kept"
+        choosing.table_filled_on_14
+    } else if keeps(table, list.entries()) {
+        choosing.table_with_bytes_kept
     } else {
-        "a table"
+        choosing.table
     };
-    script.say("show table");
+    let shown = script.say("show table");
     script.shows(left);
+    [answer, shown]
 }
 
 /// Whether bytes follow those that are written, so many, and were lent with a value above 0.
@@ -48,13 +86,16 @@ fn keeps(bytes: &[u8], written: usize) -> bool {
     bytes.len() > written && bytes.last() != Some(&0)
 }
 
-/// What a plan, or that there is none, was held to.
-fn planned(week: &Week) -> &'static str {
-    let full = week.batches.len() == Week::MAX_BATCHES && week.closes() > 2_390;
-    match reference::tries_of_list(week) {
-        Some(..=MOST_TRIES) => "planned by every choice",
-        _ if full => "planned by the recursion, a full week",
-        _ => "planned by the recursion",
+impl Choosing {
+    /// What a plan, or that there is none, was held to.
+    fn planned(&self, desk: &Desk) -> &'static str {
+        let list = (self.of)(desk);
+        let full = list.batches.len() == Week::MAX_BATCHES && list.closes() > 2_390;
+        match reference::tries_of_list(list) {
+            Some(..=MOST_TRIES) => self.by_every_choice,
+            _ if full => self.of_a_full_week,
+            _ => self.by_the_recursion,
+        }
     }
 }
 

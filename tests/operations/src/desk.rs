@@ -1,7 +1,7 @@
 //! What the desk has written down, and what it answers to a line: the text that the program must write, to the letter.
 
 use crate::line::{Command, Line};
-use reference::{Batch, Outcome, Passed, Plan, Refusal, Refused, Run, Week};
+use reference::{Batch, Book, Outcome, Passed, Plan, Refusal, Refused, Run, Week};
 
 /// Every choice is tried where the whole table takes at most this many; the recursion plans the rest.
 pub const MOST_TRIES: u64 = 20_000;
@@ -9,9 +9,20 @@ pub const MOST_TRIES: u64 = 20_000;
 /// How many batches are kept; the count goes on.
 pub const KEPT_BATCHES: usize = 64;
 
+type Best = fn(&Week, &mut [u8]) -> Option<Plan>;
+
+/// A batch that is counted and not kept.
+const NOT_KEPT: Batch = Batch {
+    number: 0,
+    arrival: 0,
+    due: 0,
+    recipes: Vec::new(),
+};
+
 #[derive(Clone)]
 pub struct Desk {
     pub week: Week,
+    pub book: Book,
     pub table: Vec<u8>,
     pub log: Vec<u8>,
     /// The lines so far, those that are passed over among them.
@@ -20,12 +31,13 @@ pub struct Desk {
 }
 
 impl Desk {
-    /// At the start the week is 0 to 0, and the table and the log are as long as any list needs. The text of `help` is the
-    /// program's own.
+    /// At the start the week is 0 to 0, in the book as well, and the table and the log are as long as any list needs. The text
+    /// of `help` is the program's own.
     pub fn new(help: &str) -> Desk {
         let minutes = usize::from(Week::MAX_MINUTES);
         Desk {
-            week: empty_week(0, 0),
+            week: Week::empty(0, 0),
+            book: Book::empty(0, 0),
             table: vec![0; Week::MAX_BATCHES * (minutes + 1)],
             log: vec![0; minutes],
             lines: 0,
@@ -48,41 +60,34 @@ impl Desk {
 
     fn carry_out(&mut self, command: Command) -> Result<String, Refused> {
         match command {
-            Command::Week { opening, closing } => self.week = empty_week(opening, closing),
+            Command::Week { opening, closing } => self.week = Week::empty(opening, closing),
             Command::Batch(batch) => self.week.batches.push(batch),
             Command::Table(bytes) => self.table = bytes,
             Command::Log(bytes) => self.log = bytes,
-            Command::Choose => return self.choose(),
+            Command::Choose => {
+                let best = best(&self.week);
+                return reference::choose(&self.week, &mut self.table, best).map(plan);
+            }
             Command::Check(choice) => return reference::check(&self.week, &choice).map(passed),
             Command::Run(choice) => {
                 return reference::run(&self.week, &choice, &mut self.log).map(|run| ran(&run))
             }
             Command::ShowTable => return Ok(runs("table", &self.table)),
             Command::ShowLog => return Ok(runs("log", &self.log)),
-            Command::List => return Ok(self.list()),
+            Command::List => return Ok(list(&self.week)),
             Command::Sheet => return self.sheet(),
+            Command::Open { opening, closing } => return self.book.open(opening, closing).map(ok),
+            Command::Add(batch) => return self.book.add(batch).map(ok),
+            Command::Withdraw(number) => return self.book.withdraw(number).map(ok),
+            Command::Plan => {
+                let best = best(&self.book.list);
+                return self.book.plan(&mut self.table, best).map(plan);
+            }
+            Command::Book => return Ok(list(&self.book.list)),
+            Command::Hold => self.book.list = by_value(&self.week),
             Command::Help => return Ok(self.help.clone()),
         }
         Ok(String::new())
-    }
-
-    fn choose(&mut self) -> Result<String, Refused> {
-        let every = reference::tries_of_list(&self.week).is_some_and(|tries| tries <= MOST_TRIES);
-        let best = if every {
-            reference::best_of_every_choice
-        } else {
-            reference::best_by_recursion
-        };
-        reference::choose(&self.week, &mut self.table, best).map(plan)
-    }
-
-    /// The commands that write the list down.
-    fn list(&self) -> String {
-        let (opening, closing) = (self.week.opening, self.week.closing);
-        let kept = self.week.batches.iter().take(KEPT_BATCHES);
-        let mut text = format!("week {opening} {closing}\n");
-        text.extend(kept.map(batch_line));
-        text
     }
 
     /// "the list's own refusal 3 or 4 if it cannot be written": a list without a fault of these two, but for a batch
@@ -100,12 +105,33 @@ impl Desk {
     }
 }
 
-fn empty_week(opening: u16, closing: u16) -> Week {
-    Week {
-        opening,
-        closing,
-        batches: Vec::new(),
+/// The way in which this list is planned.
+fn best(list: &Week) -> Best {
+    match reference::tries_of_list(list) {
+        Some(..=MOST_TRIES) => reference::best_of_every_choice,
+        _ => reference::best_by_recursion,
     }
+}
+
+/// A list by value: the first 16 batches, and the count.
+fn by_value(week: &Week) -> Week {
+    let mut list = week.clone();
+    let beyond = list.batches.iter_mut().skip(Week::MAX_BATCHES);
+    beyond.for_each(|batch| *batch = NOT_KEPT);
+    list
+}
+
+fn ok(_: ()) -> String {
+    "ok\n".to_string()
+}
+
+/// The commands that write a list down.
+fn list(week: &Week) -> String {
+    let (opening, closing) = (week.opening, week.closing);
+    let kept = week.batches.iter().take(KEPT_BATCHES);
+    let mut text = format!("week {opening} {closing}\n");
+    text.extend(kept.map(batch_line));
+    text
 }
 
 /// A word and what follows it, a line; the word alone where nothing does.
@@ -222,6 +248,68 @@ mod tests {
         let said = "\n# week 1 2\n  \nweek 00001 65536\n week  00001   65535 \n # week 1 2\nlist\n";
         let right = "no command: line 4\nno command: line 6\nweek 1 65535\n";
         assert_eq!(answers(said), right);
+    }
+
+    /// Document 02, One, by the book: case W added from its last batch to its first, and one withdrawn.
+    #[test]
+    fn case_w_in_the_book() {
+        let said = "open 0 100\nadd 9 0 100 50 10 20 5\nadd 8 20 60 30 8 0 0\nadd 7 0 40 30 9 10 4\nbook\n\
+            plan\ntable 303\nplan\nshow table\nwithdraw 8\nplan\nwithdraw 8\nwithdraw 0\nlist\n";
+        let right =
+            "ok\nok\nok\nok\nweek 0 100\nbatch 7 0 40 30 9 10 4\nbatch 8 20 60 30 8 0 0\nbatch 9 0 100 50 10 20 5\n\
+            plan 22\nrecipes 2 1 1\nplan 22\nrecipes 2 1 1\n\
+            table 0x10 2x20 1x71 0x10 2x40 1x51 0x30 2x30 1x10 2x30 1x1\n\
+            ok\nplan 19\nrecipes 1 1\nrefused 21 0 0\nrefused 21 0 0\nweek 0 0\n";
+        assert_eq!(answers(said), right);
+    }
+
+    /// At the start, and after a refused opening, the book is an empty one of week 0 to 0.
+    #[test]
+    fn a_refused_opening() {
+        let calls = "add 1 0 5 1 1\nwithdraw 1\nplan\nbook\n";
+        let refused = "refused 1 0 0\nrefused 1 0 0\nrefused 1 0 0\nweek 0 0\n";
+        assert_eq!(answers(calls), refused);
+        let said = format!("open 0 9\nadd 1 0 5 1 1\nopen 5 5\n{calls}open 0 2401\n{calls}");
+        let right = format!("ok\nok\nrefused 1 0 0\n{refused}refused 2 0 0\n{refused}");
+        assert_eq!(answers(&said), right);
+    }
+
+    /// 4 to 9 of a new batch name no place, 20 comes before them, and 10 is never asked of it.
+    #[test]
+    fn refused_batches() {
+        let said = "open 0 30\nadd 5 0 20 3 1 2 1\nadd 4 0 20 3 1 2 1\nadd 6 0 20\nadd 6 9 9 1 1\nadd 6 30 31 1 1\n\
+            add 6 0 20 1 1 2 1\nadd 6 0 20 2 1 0 1\nadd 0 0 20 1 1\nadd 5 0 9 1 1\nadd 5 0 29 1 1\nbook\n";
+        let right = "ok\nok\nok\nrefused 4 0 0\nrefused 5 0 0\nrefused 6 0 0\n\
+            refused 7 0 2\nrefused 8 0 2\nrefused 9 0 0\nrefused 9 0 0\nrefused 9 0 0\n\
+            week 0 30\nbatch 4 0 20 3 1 2 1\nbatch 5 0 20 3 1 2 1\n";
+        assert_eq!(answers(said), right);
+        let sixteen: String = (1..=16)
+            .map(|number| format!("add {number} 0 20 1 1\n"))
+            .collect();
+        let said = format!("open 0 30\n{sixteen}add 17 0 20\nadd 3 0 20 1 1\nwithdraw 9\nadd 17 0 20\nadd 17 0 19 1 1\n");
+        let oks = "ok\n".repeat(17);
+        let right = format!("{oks}refused 20 0 0\nrefused 20 0 0\nok\nrefused 4 0 0\nok\n");
+        assert_eq!(answers(&said), right);
+    }
+
+    /// The held list is refused as Choose would refuse it, by every call but an opening, and stays as it stands.
+    #[test]
+    fn held_lists() {
+        let said = "week 0 30\nbatch 2 0 20 1 1\nbatch 1 0 10 1 1\nhold\nadd 1 0 20\nwithdraw 0\nplan\nbook\nopen 0 5\nbook\n";
+        let right = "refused 10 2 0\nrefused 10 2 0\nrefused 10 2 0\n\
+            week 0 30\nbatch 2 0 20 1 1\nbatch 1 0 10 1 1\nok\nweek 0 5\n";
+        assert_eq!(answers(said), right);
+        let batches = |count: usize| "batch 7 0 10 1 1\n".repeat(count);
+        let empty = |count: usize| "batch 0 0 0\n".repeat(count);
+        for (written, printed) in [(17, 17), (64, 64), (65, 64)] {
+            let said = format!("week 0 30\n{}hold\nbook\nadd 1 0 9 1 1\n", batches(written));
+            let right = format!(
+                "week 0 30\n{}{}refused 3 0 0\n",
+                batches(16),
+                empty(printed - 16)
+            );
+            assert_eq!(answers(&said), right);
+        }
     }
 
     /// Above a limit the list stays above it.

@@ -20,6 +20,7 @@ pub fn at_the_edge(chance: &mut Chance) -> Vec<u8> {
     let choice = " 1".repeat(MAX_CHOICE);
     let wide = format!("{:MAX_BYTES$}", "choose");
     let far = format!("{:>MAX_BYTES$}", "list");
+    let book = format!("{:>MAX_BYTES$}", "book");
     let full = format!("check{}{}", " ".repeat(MAX_BYTES - 7), " 1");
     let lines = [
         "table 40000 255",
@@ -32,10 +33,15 @@ pub fn at_the_edge(chance: &mut Chance) -> Vec<u8> {
         "run",
         "week 65535 65535",
         "batch 65535 65535 65535 65535 65535",
+        "open 63135 65535",
+        "open 63134 65535",
+        "add 65535 65534 65535 65535 65535",
+        "withdraw 65535",
         &["check", &choice].concat(),
         &["run", &choice].concat(),
         &wide,
         &far,
+        &book,
         &full,
     ];
     chance.one_of(&lines).into()

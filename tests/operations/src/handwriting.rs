@@ -29,15 +29,16 @@ fn spaces(chance: &mut Chance, least: usize) -> &'static str {
 /// The lines that write a week down.
 pub fn week(chance: &mut Chance, week: &Week) -> Vec<Vec<u8>> {
     let first = line(chance, "week", &[week.opening, week.closing]);
-    let batches = week.batches.iter().map(|it| batch(chance, it));
+    let batches = week.batches.iter().map(|it| batch(chance, "batch", it));
     let mut lines: Vec<Vec<u8>> = batches.collect();
     lines.insert(0, first);
     lines
 }
 
-pub fn batch(chance: &mut Chance, batch: &Batch) -> Vec<u8> {
+/// The line of this word and a batch's numbers.
+pub fn batch(chance: &mut Chance, word: &str, batch: &Batch) -> Vec<u8> {
     let mut numbers = vec![batch.number, batch.arrival, batch.due];
     let recipes = batch.recipes.iter();
     numbers.extend(recipes.flat_map(|recipe| [recipe.cost, recipe.worth]));
-    line(chance, "batch", &numbers)
+    line(chance, word, &numbers)
 }

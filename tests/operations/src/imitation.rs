@@ -32,7 +32,7 @@ pub const RIGHT: Imitation = Imitation {
 
 const HELP: &str =
     "week T C\nbatch NUMBER R D COST WORTH ..\ntable SIZE V\nlog SIZE V\nchoose\ncheck K ..\nrun K ..\n\
-    show table\nshow log\nlist\nsheet\nhelp\n";
+    show table\nshow log\nlist\nsheet\nopen T C\nadd NUMBER R D COST WORTH ..\nwithdraw NUMBER\nplan\nbook\nhold\nhelp\n";
 
 impl Imitation {
     /// Whether this is how a wrong one can be found out, and not how one that falls over is. A line taken for another shows

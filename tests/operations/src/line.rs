@@ -31,6 +31,12 @@ pub enum Command {
     ShowLog,
     List,
     Sheet,
+    Open { opening: u16, closing: u16 },
+    Add(Batch),
+    Withdraw(u16),
+    Plan,
+    Book,
+    Hold,
     Help,
 }
 
@@ -71,6 +77,15 @@ fn command(words: &[&[u8]]) -> Option<Command> {
         (b"show", [b"log"]) => Command::ShowLog,
         (b"list", []) => Command::List,
         (b"sheet", []) => Command::Sheet,
+        (b"open", &[opening, closing]) => Command::Open {
+            opening: number(opening)?,
+            closing: number(closing)?,
+        },
+        (b"add", rest) => Command::Add(batch(rest)?),
+        (b"withdraw", &[held]) => Command::Withdraw(number(held)?),
+        (b"plan", []) => Command::Plan,
+        (b"book", []) => Command::Book,
+        (b"hold", []) => Command::Hold,
         (b"help", []) => Command::Help,
         _ => return None,
     })

@@ -1,16 +1,21 @@
-//! The desk's program through a pipe, every answer to the letter, against a second implementation from document 01's text.
+//! The desk's program through a pipe, every answer to the letter, against a second implementation from the text of documents
+//! 01 and 02.
 //!
 //! `operations drive PROGRAM [COMMANDS [SEED]]` holds conversations with a program. `operations answer NAME` is a program to
 //! put in its place, a right one or a wrong one; `operations imitations` has the right one pass and finds each wrong one out.
 
+mod aside;
 mod ask;
 mod choices;
+mod collection;
 mod desk;
 mod drive;
 mod edges;
 mod handwriting;
 mod help;
+mod history;
 mod imitation;
+mod lending;
 mod line;
 mod no_command;
 mod pieces;
@@ -29,10 +34,10 @@ use std::process::ExitCode;
 use std::time::Duration;
 
 const SEED: u64 = 2008;
-const COMMANDS: u64 = 400_000;
+const COMMANDS: u64 = 800_000;
 
 /// So many are enough to meet everything, and to find a wrong program out.
-const COMMANDS_OF_AN_IMITATION: u64 = 40_000;
+const COMMANDS_OF_AN_IMITATION: u64 = 80_000;
 
 /// How long an answer may take: long beside any answer, since the machine may have other work. Of a wrong program, some of
 /// which are found out by waiting in vain, less.

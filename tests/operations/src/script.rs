@@ -1,5 +1,6 @@
 //! A conversation with the desk: lines, each with the answer that is right.
 
+use crate::collection::Collection;
 use crate::desk::Desk;
 
 pub struct Spoken {
@@ -12,6 +13,7 @@ pub struct Spoken {
 
 pub struct Script {
     pub desk: Desk,
+    pub collection: Collection,
     pub spoken: Vec<Spoken>,
 }
 
@@ -19,6 +21,7 @@ impl Script {
     pub fn new(help: &str) -> Script {
         Script {
             desk: Desk::new(help),
+            collection: Collection::default(),
             spoken: Vec::new(),
         }
     }
@@ -27,6 +30,7 @@ impl Script {
     pub fn say(&mut self, line: impl Into<Vec<u8>>) -> String {
         let line = line.into();
         let answer = self.desk.answer(&line);
+        self.collection.hear(&line, &answer);
         self.spoken.push(Spoken {
             line,
             answer: answer.clone(),

@@ -181,14 +181,17 @@ impl Session<'_> {
         Err(self.difference(How::Wrote, &what))
     }
 
-    /// The conversation from the last week on, and how it went wrong.
+    /// The conversation from the last week and the last opening of the book on, and how it went wrong.
     fn difference(&self, how: How, what: &str) -> Difference {
         let at = self.answer_ends.partition_point(|&end| end <= self.heard);
         let said = &self.spoken[..self.spoken.len().min(at + 1)];
-        let mut lines = said.iter();
-        let week = lines.rposition(|spoken| spoken.line.starts_with(b"week"));
+        let last = |word: &str| {
+            said.iter()
+                .rposition(|it| it.line.starts_with(word.as_bytes()))
+        };
+        let from = last("week").min(last("open")).unwrap_or(0);
         let mut text = String::new();
-        for spoken in &said[week.unwrap_or(0)..] {
+        for spoken in &said[from..] {
             let line = spoken.line.escape_ascii().to_string();
             text += &format!("    {}\n", shortened(&line));
         }

@@ -1,25 +1,33 @@
-//! What is said to the desk: weeks written down, operations over them, and lines of every other kind in between.
+//! What is said to the desk: weeks written down and operations over them, histories of the book, and lines of every other
+//! kind in between.
 
+use crate::aside::aside;
 use crate::ask::operation;
-use crate::edges;
 use crate::handwriting;
-use crate::line::{MAX_LOG, MAX_TABLE};
-use crate::no_command;
+use crate::history::{self, history};
+use crate::lending;
 use crate::script::Script;
 use crate::weeks::{self, Subject};
 use drawn::Chance;
 use reference::Week;
 
-/// One conversation. What it asks before it writes a week down shows what holds at the start.
+/// One conversation. What it asks before it writes a week down, or opens the book, shows what holds at the start.
 pub fn talk(chance: &mut Chance, help: &str) -> Script {
     let mut script = Script::new(help);
     for _ in 0..chance.below(3) {
         operation(&mut script, chance);
     }
+    if chance.one_in(3) {
+        history::before_any_opening(&mut script, chance);
+    }
     for _ in 0..chance.between(0..=24) {
-        let subject = weeks::draw(chance);
-        write_down(&mut script, chance, &subject.week);
-        about(&mut script, chance, &subject);
+        if chance.one_in(3) {
+            history(&mut script, chance);
+        } else {
+            let subject = weeks::draw(chance);
+            write_down(&mut script, chance, &subject.week);
+            about(&mut script, chance, &subject);
+        }
     }
     script
 }
@@ -44,49 +52,13 @@ fn write_down(script: &mut Script, chance: &mut Chance, week: &Week) {
     }
 }
 
-/// A table, a log, or both, most of them long enough.
+/// A table, a log, or both.
 fn lend(script: &mut Script, chance: &mut Chance, subject: &Subject) {
     let lent = chance.between(1..=3);
     if lent != 1 {
-        lend_one(script, chance, "table", subject.entries, MAX_TABLE);
+        script.say(lending::table(chance, subject.entries));
     }
     if lent != 2 {
-        lend_one(script, chance, "log", subject.minutes, MAX_LOG);
-    }
-}
-
-fn lend_one(script: &mut Script, chance: &mut Chance, word: &str, needed: usize, most: usize) {
-    let size = match chance.below(16) {
-        0 => 0,
-        1 | 2 => needed.saturating_sub(1),
-        3 => chance.between(0..=needed),
-        4..=8 => needed,
-        9 => most,
-        _ => needed + chance.between(1..=40),
-    };
-    let value = chance.one_of(&[0, 1, 7, 99, 200, 255]);
-    let numbers = [size.min(most), value];
-    let given = if chance.one_in(8) { 1 } else { 2 };
-    let line = handwriting::line(chance, word, &numbers[..given]);
-    script.say(line);
-}
-
-/// A line that is no command, or is passed over, or is a command at the edge of what can be said; most often none.
-fn aside(script: &mut Script, chance: &mut Chance) {
-    match chance.below(40) {
-        0..=5 => {
-            let (way, line) = no_command::draw(chance);
-            script.say(line);
-            script.shows(way);
-        }
-        6 | 7 => {
-            script.say(edges::passed_over(chance));
-            script.shows("a line passed over");
-        }
-        8 => {
-            script.say(edges::at_the_edge(chance));
-            script.shows("a command at the edge");
-        }
-        _ => {}
+        script.say(lending::log(chance, subject.minutes));
     }
 }

@@ -13,7 +13,10 @@ struct Operation {
     refusals: &'static [usize],
 }
 
-const OPERATIONS: [Operation; 4] = [
+/// What `add` refuses for the held list.
+const HELD_LIST: &str = "add, of the held list";
+
+const OPERATIONS: [Operation; 9] = [
     Operation {
         name: "choose",
         refusals: &[1, 2, 3, 4, 5, 6, 7, 8, 9, 10, 11, 14],
@@ -30,10 +33,33 @@ const OPERATIONS: [Operation; 4] = [
         name: "sheet",
         refusals: &[3, 4],
     },
+    Operation {
+        name: "open",
+        refusals: &[1, 2],
+    },
+    Operation {
+        name: "add",
+        refusals: &[4, 5, 6, 7, 8, 9, 20],
+    },
+    Operation {
+        name: HELD_LIST,
+        refusals: &[1, 2, 3, 4, 5, 6, 7, 8, 9, 10],
+    },
+    Operation {
+        name: "withdraw",
+        refusals: &[1, 2, 3, 4, 5, 6, 7, 8, 9, 10, 21],
+    },
+    Operation {
+        name: "plan",
+        refusals: &[1, 2, 3, 4, 5, 6, 7, 8, 9, 10, 11, 14],
+    },
 ];
 
+/// The greatest refusal of an operation.
+const MAX_REFUSAL: usize = 21;
+
 /// What lines must have shown, beside each way in which a line is no command.
-const SHOWN: [&str; 24] = [
+const SHOWN: [&str; 49] = [
     "planned by every choice",
     "planned by the recursion",
     "planned by the recursion, a full week",
@@ -52,6 +78,31 @@ const SHOWN: [&str; 24] = [
     "a list of more than 64 batches",
     "a list with more than 10 recipes",
     "a sheet with a batch without recipes",
+    "a book planned by every choice",
+    "a book planned by the recursion",
+    "a book planned by the recursion, a full week",
+    "a book's table",
+    "a book's table filled on 14",
+    "a book's table after a refusal",
+    "a book's table with bytes that are kept",
+    "a book planned as a list",
+    "an empty book planned as a list",
+    "a full book planned as a list",
+    "a batch added in front",
+    "a batch added between two",
+    "a batch added at the end",
+    "number 0 added",
+    "a number held before the new batch",
+    "a number held after the new batch",
+    "a full book, and a number that it holds",
+    "a full book, and a faulty batch",
+    "a withdrawn place used again",
+    "the first of several withdrawn",
+    "one between two withdrawn",
+    "the last withdrawn",
+    "a book of more than 16 batches",
+    "a book of more than 64 batches",
+    "a book with more than 10 recipes",
     "help",
     "a line passed over",
     "a command at the edge",
@@ -70,7 +121,7 @@ pub struct Tally {
     /// All lines but those that are passed over.
     pub commands: u64,
     /// By refusal number, the accepted at 0.
-    answers: [[u64; 16]; 4],
+    answers: [[u64; MAX_REFUSAL + 1]; OPERATIONS.len()],
     shown: BTreeMap<&'static str, u64>,
 }
 
@@ -90,7 +141,7 @@ impl Tally {
     fn count_line(&mut self, spoken: &Spoken) {
         let line = Line::of(&spoken.line);
         self.commands += u64::from(!matches!(line, Line::PassedOver));
-        if let Some(operation) = operation(&line) {
+        if let Some(operation) = operation(&line, &spoken.answer) {
             self.answers[operation][refusal_told(&spoken.answer)] += 1;
         }
         if let Some(shows) = spoken.shows {
@@ -118,12 +169,14 @@ impl Tally {
             "{} commands in {} conversations",
             self.commands, self.conversations
         );
-        print!("{:<8}{:>9}", "", "accepted");
-        (1..16).for_each(|refusal| print!("{refusal:>6}"));
+        print!("{:<22}{:>9}", "", "accepted");
+        let refusals = (1..=MAX_REFUSAL).filter(|refusal| !(16..20).contains(refusal));
+        refusals.clone().for_each(|refusal| print!("{refusal:>6}"));
         println!();
         for (operation, answers) in OPERATIONS.iter().zip(&self.answers) {
-            print!("{:<8}{:>9}", operation.name, answers[0]);
-            answers[1..].iter().for_each(|count| print!("{count:>6}"));
+            print!("{:<22}{:>9}", operation.name, answers[0]);
+            let counts = refusals.clone().map(|refusal| answers[refusal]);
+            counts.for_each(|count| print!("{count:>6}"));
             println!();
         }
         for name in must_be_shown() {
@@ -140,7 +193,8 @@ impl Tally {
         let mut missing = Vec::new();
         let least = (self.commands / ANSWER_ONE_OF).max(1);
         for (operation, answers) in OPERATIONS.iter().zip(&self.answers) {
-            for &refusal in operation.refusals.iter().chain([&0]) {
+            let accepts = operation.name != HELD_LIST;
+            for &refusal in operation.refusals.iter().chain(accepts.then_some(&0)) {
                 if answers[refusal] < least {
                     let name = operation.name;
                     missing.push(format!(
@@ -165,12 +219,29 @@ fn must_be_shown() -> impl Iterator<Item = &'static str> {
 }
 
 /// Which of the operations a line asks for.
-fn operation(line: &Line) -> Option<usize> {
-    match line {
-        Line::Command(Command::Choose) => Some(0),
-        Line::Command(Command::Check(_)) => Some(1),
-        Line::Command(Command::Run(_)) => Some(2),
-        Line::Command(Command::Sheet) => Some(3),
-        _ => None,
-    }
+fn operation(line: &Line, answer: &str) -> Option<usize> {
+    let Line::Command(command) = line else {
+        return None;
+    };
+    let name = match command {
+        Command::Choose => "choose",
+        Command::Check(_) => "check",
+        Command::Run(_) => "run",
+        Command::Sheet => "sheet",
+        Command::Open { .. } => "open",
+        Command::Add(_) if of_the_held_list(answer) => HELD_LIST,
+        Command::Add(_) => "add",
+        Command::Withdraw(_) => "withdraw",
+        Command::Plan => "plan",
+        _ => return None,
+    };
+    OPERATIONS
+        .iter()
+        .position(|operation| operation.name == name)
+}
+
+/// Whether an answer to `add` is the held list's own refusal: 1 to 3, or one that names a place.
+fn of_the_held_list(answer: &str) -> bool {
+    let place = answer.split(' ').nth(2);
+    matches!(refusal_told(answer), 1..=3) || place.is_some_and(|place| place != "0")
 }

@@ -33,8 +33,8 @@ const LIST: Shape = Shape {
 pub fn draw(chance: &mut Chance) -> Subject {
     match chance.below(32) {
         0..=12 => Subject::new(week(chance, &SMALL)),
-        13..=28 => faulty(chance),
-        29 => great_counts(chance),
+        13..=27 => damaged(chance, fault),
+        28 | 29 => damaged(chance, great_count),
         30 => Subject::new(week(chance, &LARGER)),
         _ => Subject::new(week(chance, &FULL)),
     }
@@ -50,35 +50,37 @@ impl Subject {
     }
 }
 
-/// A fault of 1 to 10, or two.
-fn faulty(chance: &mut Chance) -> Subject {
+fn damaged(chance: &mut Chance, damage: fn(&mut Chance, &mut Week)) -> Subject {
     let mut subject = Subject::new(week(chance, &LIST));
-    let refusal = chance.between(1..=10);
-    faults::put_in_one_or_two(chance, &mut subject.week, refusal);
+    damage(chance, &mut subject.week);
     subject
 }
 
-/// 17 to 70 batches and now and then more than a byte counts, or as many recipes of one batch.
-fn great_counts(chance: &mut Chance) -> Subject {
-    let mut subject = Subject::new(week(chance, &LIST));
-    let batches = &mut subject.week.batches;
+/// A fault of 1 to 10, or two, in a list that has a batch.
+pub fn fault(chance: &mut Chance, week: &mut Week) {
+    let refusal = chance.between(1..=10);
+    faults::put_in_one_or_two(chance, week, refusal);
+}
+
+/// 17 to 70 batches and now and then more than a byte counts, or as many recipes of one batch, in a list that has one.
+pub fn great_count(chance: &mut Chance, week: &mut Week) {
+    let batches = &mut week.batches;
     let at = chance.below(batches.len());
     if chance.one_in(2) {
         let recipe = Recipe {
             cost: chance.value(1..=9),
             worth: chance.value(0..=9),
         };
-        let count = great_count(chance, Batch::MAX_RECIPES);
+        let count = count_above(chance, Batch::MAX_RECIPES);
         batches[at].recipes.resize(count, recipe);
     } else {
-        let count = great_count(chance, Week::MAX_BATCHES);
+        let count = count_above(chance, Week::MAX_BATCHES);
         let batch = batches[at].clone();
         batches.resize(count, batch);
     }
-    subject
 }
 
-fn great_count(chance: &mut Chance, limit: usize) -> usize {
+fn count_above(chance: &mut Chance, limit: usize) -> usize {
     match chance.below(8) {
         0 => limit + 1,
         1 => chance.between(254..=300),

@@ -1,6 +1,7 @@
 //! The planner a second time, from document 01: the operations over a list, the call and the text of its program over a
-//! sheet, and three ways to find the best plan.
+//! sheet, and three ways to find the best plan. From document 02, One: the week book.
 
+mod book;
 mod call;
 mod every_choice;
 mod frame;
@@ -16,6 +17,7 @@ mod same_loops;
 mod sheet;
 mod week;
 
+pub use book::Book;
 pub use every_choice::{plan as best_of_every_choice, tries, tries_of_list};
 pub use operation::{check, choose, run, Passed};
 pub use plan::Plan;

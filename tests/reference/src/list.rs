@@ -33,15 +33,20 @@ pub fn judge_choice(week: &Week, choice: &[u8]) -> Result<(), Refused> {
 /// The batch with index i, after the batches before it.
 fn judge_batch(week: &Week, i: usize) -> Result<(), Refused> {
     let (earlier, batch) = (&week.batches[..i], &week.batches[i]);
+    judge_beside(batch, earlier, week.closing)?;
+    let before = earlier.last();
+    Refusal::BatchOrder.when(before.is_some_and(|other| week.order(other) >= week.order(batch)))
+}
+
+/// 4 to 9 of a batch beside these others, naming no place.
+pub fn judge_beside(batch: &Batch, others: &[Batch], closing: u16) -> Result<(), Refused> {
     let count = batch.recipes.len();
     Refusal::RecipeCount.when(count == 0 || count > Batch::MAX_RECIPES)?;
     Refusal::DueNotAfterArrival.when(batch.due <= batch.arrival)?;
-    Refusal::ArrivalNotBeforeClose.when(batch.arrival >= week.closing)?;
+    Refusal::ArrivalNotBeforeClose.when(batch.arrival >= closing)?;
     judge_recipes(batch)?;
     let number = batch.number;
-    Refusal::BatchNumber.when(number == 0 || earlier.iter().any(|other| other.number == number))?;
-    let before = earlier.last();
-    Refusal::BatchOrder.when(before.is_some_and(|other| week.order(other) >= week.order(batch)))
+    Refusal::BatchNumber.when(number == 0 || others.iter().any(|other| other.number == number))
 }
 
 /// "Refusal 7 names the first faulty recipe": the second of the first pair.

@@ -42,6 +42,10 @@ pub enum Refusal {
     SheetTooLong = 18,
     /// "recipe buffer shorter than n."
     ShortRecipes = 19,
+    /// Document 02, One: "the book already holds 16".
+    BookFull = 20,
+    /// Document 02, One: "no such number".
+    NotHeld = 21,
 }
 
 impl Refusal {

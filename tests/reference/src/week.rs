@@ -48,6 +48,15 @@ impl Week {
     pub const MAX_BATCHES: usize = 16;
     pub const MAX_MINUTES: u16 = 2400;
 
+    /// The list of no batches.
+    pub fn empty(opening: u16, closing: u16) -> Week {
+        Week {
+            opening,
+            closing,
+            batches: Vec::new(),
+        }
+    }
+
     /// "A batch's ready minute s is the greater of t and r."
     pub fn ready(&self, batch: &Batch) -> u16 {
         self.opening.max(batch.arrival)
@@ -56,6 +65,23 @@ impl Week {
     /// "Batches stand in order of due minute, then ready minute, then number."
     pub fn order(&self, batch: &Batch) -> (u16, u16, u16) {
         (batch.due, self.ready(batch), batch.number)
+    }
+
+    pub fn put_in_order(&mut self) {
+        let mut batches = std::mem::take(&mut self.batches);
+        batches.sort_by_key(|batch| self.order(batch));
+        self.batches = batches;
+    }
+
+    /// How many of its batches come before this one.
+    pub fn before(&self, batch: &Batch) -> usize {
+        let before = |other: &&Batch| self.order(other) < self.order(batch);
+        self.batches.iter().filter(before).count()
+    }
+
+    /// Whether one of its batches has this number.
+    pub fn holds(&self, number: u16) -> bool {
+        self.batches.iter().any(|batch| batch.number == number)
     }
 
     /// The closes from t to c: c − t + 1, of a week that closes after it opens.

@@ -1,6 +1,6 @@
 //! Lists judged wrongly, or not kept as they were written down.
 
-use super::wrong;
+use super::{list_asked, wrong};
 use crate::imitation::Imitation;
 use crate::line::{Command, Line};
 use reference::{Batch, Week};
@@ -42,18 +42,23 @@ pub const WRONG: [Imitation; 8] = [
     }),
     wrong("8 asked before 7", |desk, line| {
         let answer = desk.answer(line);
-        let position = refused_at(&answer, "refused 7 ");
-        let recipes = position.map(|position| &desk.week.batches[position - 1].recipes);
-        let mut recipes = recipes.into_iter().flatten();
+        let Some(place) = refused_at(&answer, "refused 7 ") else {
+            return answer;
+        };
+        let batch = match Line::of(line) {
+            Line::Command(Command::Add(batch)) if place == 0 => batch,
+            _ => list_asked(desk, line).batches[place - 1].clone(),
+        };
+        let mut recipes = batch.recipes.iter();
         match recipes.position(|recipe| recipe.cost == 0 && recipe.worth > 0) {
-            Some(i) => format!("refused 8 {} {}\n", position.unwrap_or(0), i + 1),
+            Some(i) => format!("refused 8 {place} {}\n", i + 1),
             None => answer,
         }
     }),
     wrong("10 by arrival, not by ready minute", |desk, line| {
         let answer = desk.answer(line);
         let order = |batch: &Batch| (batch.due, batch.arrival, batch.number);
-        let mut pairs = desk.week.batches.windows(2);
+        let mut pairs = list_asked(desk, line).batches.windows(2);
         match pairs.position(|pair| order(&pair[0]) >= order(&pair[1])) {
             Some(i) if accepted(&answer) => format!("refused 10 {} 0\n", i + 2),
             _ => answer,
@@ -61,7 +66,7 @@ pub const WRONG: [Imitation; 8] = [
     }),
     wrong("list prints more than 64 batches", |desk, line| {
         let mut answer = desk.answer(line);
-        if answer.starts_with("week ") && desk.week.batches.len() > 64 {
+        if answer.starts_with("week ") && list_asked(desk, line).batches.len() > 64 {
             answer += "batch 65 0 1 1 1\n";
         }
         answer

@@ -1,14 +1,14 @@
 //! Wrong plans, and wrong bytes in the picks table.
 
-use super::{instead, wrong};
+use super::{asked, instead, list_asked, wrong};
 use crate::desk::Desk;
 use crate::imitation::Imitation;
-use crate::line::{Command, Line};
+use crate::line::Command;
 
 pub const WRONG: [Imitation; 10] = [
     wrong("recipe 1 always", |desk, line| {
         let answer = desk.answer(line);
-        let ones = " 1".repeat(desk.week.batches.len());
+        let ones = " 1".repeat(list_asked(desk, line).batches.len());
         match answer.split_once("\nrecipes") {
             Some((plan, _)) => format!("{plan}\nrecipes{ones}\n"),
             None => answer,
@@ -18,27 +18,35 @@ pub const WRONG: [Imitation; 10] = [
         instead(desk.answer(line), "plan ", "refused 14 0 0\n")
     }),
     wrong("no choice as a total of 0", |desk, line| {
-        let none = " 0".repeat(desk.week.batches.len());
+        let none = " 0".repeat(list_asked(desk, line).batches.len());
         let plan = format!("plan 0\nrecipes{none}\n");
         instead(desk.answer(line), "refused 14 ", &plan)
     }),
     wrong("a tie to the higher recipe", tie_to_the_higher),
     wrong("the table left unfilled", |desk, line| {
-        keeps_table(desk, line, "plan ")
+        asked(Command::Choose, desk, line, |desk, line| {
+            keeps_table(desk, line, "plan ")
+        })
     }),
     wrong("the table left unfilled on 14", |desk, line| {
-        keeps_table(desk, line, "refused 14 ")
+        asked(Command::Choose, desk, line, |desk, line| {
+            keeps_table(desk, line, "refused 14 ")
+        })
     }),
     wrong("the table filled on 11", |desk, line| {
-        clears_table(desk, line, "refused 11 ")
+        asked(Command::Choose, desk, line, |desk, line| {
+            clears_table(desk, line, "refused 11 ")
+        })
     }),
     wrong("the table filled on 9", |desk, line| {
-        clears_table(desk, line, "refused 9 ")
+        asked(Command::Choose, desk, line, |desk, line| {
+            clears_table(desk, line, "refused 9 ")
+        })
     }),
     wrong("a byte beyond the table's part altered", |desk, line| {
         let answer = desk.answer(line);
         if answer.starts_with("plan ") {
-            let beyond = desk.week.entries();
+            let beyond = list_asked(desk, line).entries();
             desk.table
                 .iter_mut()
                 .skip(beyond)
@@ -50,9 +58,9 @@ pub const WRONG: [Imitation; 10] = [
     wrong("an entry of 0 as the last recipe", |desk, line| {
         let answer = desk.answer(line);
         if answer.starts_with("plan ") {
-            let closes = desk.week.closes();
-            let rows = desk.table.chunks_exact_mut(closes).zip(&desk.week.batches);
-            for (row, batch) in rows {
+            let list = list_asked(desk, line).clone();
+            let rows = desk.table.chunks_exact_mut(list.closes());
+            for (row, batch) in rows.zip(&list.batches) {
                 let last = batch.recipes.len() as u8;
                 row.iter_mut()
                     .filter(|entry| **entry == 0)
@@ -64,7 +72,7 @@ pub const WRONG: [Imitation; 10] = [
 ];
 
 /// The table stays as it was under an answer that begins so.
-fn keeps_table(desk: &mut Desk, line: &[u8], start: &str) -> String {
+pub fn keeps_table(desk: &mut Desk, line: &[u8], start: &str) -> String {
     let table = desk.table.clone();
     let answer = desk.answer(line);
     if answer.starts_with(start) {
@@ -73,10 +81,10 @@ fn keeps_table(desk: &mut Desk, line: &[u8], start: &str) -> String {
     answer
 }
 
-/// The table is filled with 0 by a Choose that is answered so.
-fn clears_table(desk: &mut Desk, line: &[u8], start: &str) -> String {
+/// The table is filled with 0 under an answer that begins so.
+pub fn clears_table(desk: &mut Desk, line: &[u8], start: &str) -> String {
     let answer = desk.answer(line);
-    if answer.starts_with(start) && matches!(Line::of(line), Line::Command(Command::Choose)) {
+    if answer.starts_with(start) {
         desk.table.fill(0);
     }
     answer
@@ -93,7 +101,7 @@ fn tie_to_the_higher(desk: &mut Desk, line: &[u8]) -> String {
     for i in 0..recipes.len() {
         let mut higher = recipes.clone();
         higher[i] += 1;
-        let checked = reference::check(&desk.week, &higher);
+        let checked = reference::check(list_asked(desk, line), &higher);
         if checked.is_ok_and(|passed| plan == format!("plan {}", passed.total)) {
             let numbers = higher.iter().map(|number| format!(" {number}"));
             return format!("{plan}\nrecipes{}\n", numbers.collect::<String>());
