@@ -1,13 +1,12 @@
 -- Answers as text: the refusal, or one line or two, put into an array of zeros; and that a list which is accepted has at most 16 batches.
 use Prim.Native.Nat.{ℕ, _≤_, min}
-use native.Mathlib.Decide.{decLt}
 use native.Mathlib.Omega.{arith}
-use mathlib.Core.Path.{_≡_, refl, sym, ap, ap₂, _∙_}
+use mathlib.Core.Path.{_≡_, refl, ap, ap₂}
 use mathlib.Core.List.{List, _++_}
 use lib.ListN.{length, replicate}
-use lib.Seq.{take-all}
 use Rattle.io.specs.Counts.{Counts}
 use Rattle.arrays.specs.Text.{bytes}
+use Rattle.arrays.proofs.Places.{take-within}
 use Rattle.week.specs.declared.record.Week.{Week}
 use Rattle.week.specs.declared.refusal.Refusal.{Refusal}
 use Rattle.week.specs.Record.{maxBatches}
@@ -25,7 +24,7 @@ use Rattle.answer.specs.declared.operation.AnswerText.{AnswerText}
 use Rattle.answer.specs.Line.{totalLine, recipesLine}
 use Rattle.answer.specs.Answer.{maxAnswer, textOf, planText}
 
--- "A refusal is answered `refused N P R` and nothing else."
+-- ‘A refusal is answered `refused N P R` and nothing else.’
 pub puts-refused : (fault : Refusal) (passed : List ℕ) {text last : List ℕ} {end : ℕ} → (fault .number ≡ 0 → ⊥) →
     Puts text 0 (refusalLine fault) last end → Puts text 0 (answerBy fault refusalLine passed) last end
 puts-refused fault passed n put = rw (answers fault refusalLine passed .refused refl n) put
@@ -52,12 +51,7 @@ pub plan-places : (n : ℕ) (plan : Plan) → length (plan .choice) ≡ maxBatch
 unfolding planText
 plan-places n plan size =
     ap (λ (choice : List ℕ). answerBy (plan .refusal) refusalLine (totalLine (bytes "plan") (plan .total) ++ recipesLine choice))
-    (elim (decLt maxBatches n) [
-      | yes over ↦
-          let all : min n maxBatches ≡ maxBatches = omega arith in
-          rw all (take-all maxBatches (plan .choice) (omega arith) ∙ sym (take-all n (plan .choice) (omega arith)))
-      | no within ↦ let same : min n maxBatches ≡ n = omega arith in rw same
-    ])
+    (take-within n maxBatches (plan .choice) size)
 
 -- 3: "more than 16 batches" refuses, so a list of which an operation tells more than that has no more
 module _ (w : Week) where

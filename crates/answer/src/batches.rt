@@ -1,4 +1,4 @@
-// The second line of an answer, what it says of each batch: docs/WEEKDESK.md, "The operations".
+// The second line of an answer, what it says of each batch: docs/WEEKDESK.md, ‘The operations’.
 use edf::outcome::Outcome;
 use jobs::rule::Stretch;
 use planner::check::Checked;
@@ -82,7 +82,7 @@ fn put_outcome(text: &mut [u8], at: usize, outcome: Outcome) -> usize
     }
 }
 
-// `outcomes ..`: "for each batch `aside`, `finished M` or `unfinished M`"
+// `outcomes ..`: ‘for each batch `aside`, `finished M` or `unfinished M`’
 pub(crate) fn outcomes_line(text: &mut [u8], at: usize, ran: WeekRun, n: usize) -> usize
     requires { ⌜ BatchesFit n at (now text) ⌝ }
     ensures { λ end. ⌜ Puts (now (text .entry)) at (outcomesLine (take n (ran .batches))) (now (text .exit)) end ⌝ }

@@ -17,7 +17,6 @@ use planner::run::run;
 use text::line::refusal_line;
 use week::record::Week;
 use week::refusal::Refusal;
-ghost use Prim.Native.Nat.{min};
 ghost use mathlib.Core.Path.{_≡_};
 ghost use lib.ListN.{length};
 ghost use Rattle.io.specs.Counts.{Counts};
@@ -25,7 +24,6 @@ ghost use Rattle.planner.specs.Choose.{chooseAnswer, tableAfter};
 ghost use Rattle.planner.specs.Check.{checkAnswer};
 ghost use Rattle.planner.specs.Run.{runAnswer, logAfter};
 ghost use Rattle.text.specs.Contract.{Puts};
-ghost use Rattle.week.specs.Record.{maxBatches};
 ghost use Rattle.answer.specs.Answer.{textOf, planText, checkText, runText, okText, noCommandText};
 ghost use Rattle.answer.specs.Contract.{AnswerFits};
 
@@ -77,22 +75,12 @@ fn run_lines(text: &mut [u8], ran: WeekRun, n: usize) -> usize
     outcomes_line(text, end, ran, n)
 }
 
-// How many of n batches a plan has a recipe for.
-fn places(n: usize) -> usize
-    ensures { λ r. ⌜ r ≡ min n maxBatches ⌝ }
-{
-    if Week::MAX_BATCHES < n {
-        return Week::MAX_BATCHES;
-    }
-    n
-}
-
 // `choose`, `plan`: what is answered of a plan for a list of n batches.
 pub fn plan_text(plan: Plan, n: usize) -> AnswerText
     ensures answer { λ r. ⌜ r ≡ textOf (planText n plan) ⌝ }
     ensures fits { λ r. ⌜ Counts (r .len) (r .bytes) ⌝ }
 {
-    let m = places(n);
+    let m = Week::places(n);
     let mut bytes = [0; MAX_ANSWER];
     let len = plan_lines(&mut bytes, plan, m);
     AnswerText { bytes, len }

@@ -1,11 +1,12 @@
 -- Lists that stand last first, and the arrays that hold them in list order: laws over any elements.
-use Prim.Native.Nat.{ℕ, zero, suc, _+_, _-_, _≤_, _<_}
+use Prim.Native.Nat.{ℕ, zero, suc, _+_, _-_, _≤_, _<_, min}
+use native.Mathlib.Decide.{decLt}
 use native.Mathlib.Omega.{arith}
 use mathlib.Core.Path.{_≡_, refl, sym, ap, ap₂, subst, _∙_}
 use mathlib.Core.List.{List, [], _∷_, _++_, append-assoc}
 use lib.ListN.{length, getD, take, drop, set, replicate, length-append, length-take, length-replicate, replicate-append-replicate}
 use lib.ListN.{List·getD-eq-default}
-use lib.Seq.{length-take-le, getD-at, getD-take, drop-at, set-at, ext-getD}
+use lib.Seq.{length-take-le, getD-at, getD-take, take-all, drop-at, set-at, ext-getD}
 use Rattle.arrays.specs.Position.{atPosition, backward, forward}
 use Rattle.arrays.specs.Made.{padded, placed}
 
@@ -58,6 +59,16 @@ module _ {A : Type 0} where
   -- the entries of the array are those of the list, and d past it
   pub padded-at : (m : ℕ) (d : A) (xs : List A) (i : ℕ) → getD (padded m d xs) i d ≡ getD xs i d
   padded-at m d xs i = append-replicate-at xs (m - length xs) d i
+
+  -- no more can be taken than there are
+  pub take-within : (n m : ℕ) (xs : List A) → length xs ≡ m → take (min n m) xs ≡ take n xs
+  take-within n m xs size =
+      elim (decLt m n) [
+        | yes over ↦
+            let all : min n m ≡ m = omega arith in
+            rw all (take-all m xs (omega arith) ∙ sym (take-all n xs (omega arith)))
+        | no within ↦ let same : min n m ≡ n = omega arith in rw same
+      ]
 
   -- the first of the array are the first of the list, padded
   pub take-padded : (n m : ℕ) (d : A) (xs : List A) → n ≤ m → take n (padded m d xs) ≡ padded n d (take n xs)

@@ -5,7 +5,7 @@ use native.Mathlib.Omega.{arith}
 use mathlib.Core.Path.{_≡_, refl, sym, ap, _∙_}
 use mathlib.Core.Logic.{_↔_}
 use mathlib.Core.Bool.{true, true≢false}
-use mathlib.Core.List.{List, [], _++_, map}
+use mathlib.Core.List.{List, [], _∷_, _++_, map}
 use lib.ListN.{length}
 use Rattle.arrays.specs.Rearranged.{Perm}
 use Rattle.week.specs.declared.record.Batch.{Batch}
@@ -27,10 +27,12 @@ use Rattle.planner.specs.declared.choose.Plan.{Plan}
 use Rattle.planner.specs.Choose.{refusedPlan, chooseAnswer, tableAfter}
 use Rattle.planner.proofs.Choosing.{choose-refusal, fill-list, plan-refused as choose-refused}
 use Rattle.book.specs.declared.book.Book.{Book}
+use Rattle.book.specs.declared.book.Answered.{Answered}
+use Rattle.book.specs.declared.plan.Planned.{Planned}
 use Rattle.book.specs.Fault.{openFault, joinFault, leaveFault}
 use Rattle.book.specs.Joins.{Joins}
 use Rattle.book.specs.Answer.{emptyBook, heldIn, handsBack, openAnswer, addAnswer, withdrawAnswer, planAnswer}
-use Rattle.book.specs.History.{Call, adds, afterCalls, collected}
+use Rattle.book.specs.History.{Call, adds, withdraws, plans, afterCall, afterCalls, collected}
 use Rattle.book.proofs.Faults.{add-list, add-join, add-passes, withdraw-list, withdraw-leave, withdraw-passes}
 use Rattle.book.proofs.Joining.{join-passes, leave-passes}
 use Rattle.book.proofs.Answering.{open-answers, add-answers, withdraw-answers, plan-refused}
@@ -159,6 +161,23 @@ refused-leaves book =
       withdraws = λ number n. withdraw-book book number ∙ unless-refused _ _ _ (refuses-too (withdraw-refusal book number) n);
       plans = λ size n. unless-refused _ _ _ n;
     }
+
+-- so after a refused opening every call is refused, by 1, and the book stays as it was handed back
+empty-refuses : (size : ℕ) → RefusesAsChoose (emptyBook 0 0) size
+empty-refuses = held-refused (emptyBook 0 0) (refuses-too (sym empty-refused) (λ z. omega arith))
+
+empty-stays : (calls : List Call) → afterCalls calls (emptyBook 0 0) ≡ emptyBook 0 0
+empty-stays [] = refl
+empty-stays (call ∷ calls) = ap (afterCalls calls) (after call) ∙ empty-stays calls
+  where
+    after : (call : Call) → afterCall call (emptyBook 0 0) ≡ emptyBook 0 0
+    after (adds b) = ap (λ (a : Answered). a .book) (empty-refuses 0 .adds b)
+    after (withdraws number) = ap (λ (a : Answered). a .book) (empty-refuses 0 .withdraws number)
+    after (plans table) = ap (λ (p : Planned). p .book) (empty-refuses (length table) .plans)
+
+pub history-refused : (t c : ℕ) → (openFault t c .number ≡ 0 → ⊥) → (calls : List Call) →
+    afterCalls calls (openAnswer t c .book) ≡ emptyBook 0 0
+history-refused t c n calls = ap (λ (a : Answered). afterCalls calls (a .book)) (open-refused t c n) ∙ empty-stays calls
 
 -- .. "and, unless it is the held list that is refused, names place 0"
 abbrev InPlace0 : Refusal → Type 0

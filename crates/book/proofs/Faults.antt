@@ -1,5 +1,5 @@
 -- The book's refusals: which of them decides, and what an accepted call tells of the held list.
-use Prim.Native.Nat.{ℕ, _≤_, _<_}
+use Prim.Native.Nat.{ℕ, _≤_, _<_, min}
 use native.Mathlib.Decide.{ℕ-discrete}
 use native.Mathlib.Omega.{arith}
 use mathlib.Core.Path.{_≡_, refl, sym, ap, _∙_}
@@ -26,7 +26,7 @@ use Rattle.week.proofs.First.{place-refused, place-number, place-each, firstOf-
 use Rattle.week.proofs.First.{firstOf-proper, append-first, append-last, append-accepted, first-proper}
 use Rattle.week.proofs.Passes.{firstOf-passes, append-passes}
 use Rattle.week.proofs.Ordering.{in-order-sorted}
-use Rattle.week.proofs.Writing.{batches-counted}
+use Rattle.week.proofs.Writing.{placed-counted}
 use Rattle.judge.proofs.WellFormed.{minutes-passes, list-proper}
 use Rattle.judge.proofs.Sound.{sound}
 use Rattle.judge.proofs.Fit.{list-fit}
@@ -174,13 +174,13 @@ out-of-place place r none n =
     ∙ ap (λ (p : ℕ). refused (r .number) p (r .recipe)) (sym none)
 
 -- ---- a number that is held, by index
-pub held-below : (w : Week) → length (w .batches) ≡ maxBatches → w .count ≤ maxBatches → (number : ℕ) →
-    isHeld number (batchesOf w) ≡ someBelow (λ i. eqb (numberAt w i) number) (w .count)
+pub held-below : (w : Week) → length (w .batches) ≡ maxBatches → (number : ℕ) →
+    isHeld number (batchesOf w) ≡ someBelow (λ i. eqb (numberAt w i) number) (min (w .count) maxBatches)
 unfolding isHeld
-held-below w long few number =
-    ap (someBelow _) (batches-counted w long few)
-    ∙ below-same _ _ (w .count)
-    (λ i l. ap (λ (b : Batch). eqb (b .number) number) (getD-take (w .count) (w .batches) i noBatch l))
+held-below w long number =
+    ap (someBelow _) (placed-counted w long)
+    ∙ below-same _ _ (min (w .count) maxBatches)
+    (λ i l. ap (λ (b : Batch). eqb (b .number) number) (getD-take (w .count) (w .batches) i noBatch (omega arith)))
 
 -- ---- a held list that is well formed stands in order
 pub well-sorted : (w : Week) → length (w .batches) ≡ maxBatches → WellFormed w → Sorted (w .opening) (batchesOf w)

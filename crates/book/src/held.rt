@@ -1,17 +1,14 @@
 // Which numbers a list holds.
 use week::record::Week;
-ghost use Prim.Native.Nat.{_≤_};
 ghost use mathlib.Core.Path.{_≡_};
-ghost use Rattle.week.specs.Record.{maxBatches};
 ghost use Rattle.week.specs.Numbers.{isHeld};
 ghost use Rattle.week.specs.Written.{batchesOf};
 
 // Whether one of its batches has a number.
 pub(crate) fn is_held(list: Week, number: u16) -> bool
-    requires { ⌜ list .count ≤ maxBatches ⌝ }
     ensures { λ r. ⌜ r ≡ isHeld number (batchesOf list) ⌝ }
 {
-    let n = list.count;
+    let n = Week::places(list.count);
     for i in 0..n {
         let batch = list.batches[i];
         if batch.number == number {

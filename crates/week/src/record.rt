@@ -1,8 +1,9 @@
 // The records that the desk hands in, and their limits.
 use jobs::model::Job;
 use jobs::model::JobList;
+ghost use Prim.Native.Nat.{min};
 ghost use mathlib.Core.Path.{_≡_};
-ghost use Rattle.week.specs.Record.{emptyBatch, emptyWeek, readyOf, spanOf};
+ghost use Rattle.week.specs.Record.{maxBatches, emptyBatch, emptyWeek, readyOf, spanOf};
 
 // Minutes on the station, and a worth.
 pub struct Recipe {
@@ -71,6 +72,16 @@ impl Week {
             count: 0,
             batches: [nothing; Week::MAX_BATCHES],
         }
+    }
+
+    // How many of n batches a list has a place for.
+    pub fn places(n: usize) -> usize
+        ensures { λ r. ⌜ r ≡ min n maxBatches ⌝ }
+    {
+        if Week::MAX_BATCHES < n {
+            return Week::MAX_BATCHES;
+        }
+        n
     }
 
     // The minutes from the opening to the close, the close not counted; none where it closes before it opens.

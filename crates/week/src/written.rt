@@ -2,7 +2,7 @@
 use crate::order::insert;
 use crate::record::Batch;
 use crate::record::Week;
-ghost use Prim.Native.Nat.{_≤_, _<_};
+ghost use Prim.Native.Nat.{_<_};
 ghost use mathlib.Core.Path.{_≡_};
 ghost use Rattle.week.specs.Record.{maxBatches};
 ghost use Rattle.week.specs.Order.{Sorted, insertIn};
@@ -11,10 +11,9 @@ ghost use Rattle.week.specs.Written.{batchesOf, written};
 
 // The same batches.
 pub fn fresh(week: Week) -> Week
-    requires { ⌜ week .count ≤ maxBatches ⌝ }
     ensures { λ r. ⌜ r ≡ written (week .opening) (week .closing) (batchesOf week) ⌝ }
 {
-    let n = week.count;
+    let n = Week::places(week.count);
     let mut out = Week::empty(week.opening, week.closing);
     for i in 0..n {
         let batch = week.batches[i];
@@ -43,10 +42,9 @@ pub fn with_batch(week: Week, batch: Batch) -> Week
 
 // Without the batches of a number.
 pub fn leave_out(week: Week, number: u16) -> Week
-    requires { ⌜ week .count ≤ maxBatches ⌝ }
     ensures { λ r. ⌜ r ≡ written (week .opening) (week .closing) (without number (batchesOf week)) ⌝ }
 {
-    let n = week.count;
+    let n = Week::places(week.count);
     let mut left = Week::empty(week.opening, week.closing);
     let mut count = 0;
     for i in 0..n {

@@ -5,7 +5,6 @@ use Rattle.week.specs.Refusal.{refusedIf, firstOf}
 use Rattle.week.specs.Written.{batchesOf}
 use Rattle.book.specs.Fault.{newFaults}
 use Rattle.week.proofs.First.{number-of, refuses-too, refusedIf-true, refusedIf-false}
-use Rattle.judge.proofs.Sound.{sound}
 use Rattle.book.proofs.Faults.{formed-opens, new-alone, new-held}
 use Rattle.book.proofs.add.new_fault.Statement.{statement}
 use Rattle.book.proofs.add.new_fault.Tie as tie
@@ -32,7 +31,7 @@ returns c =
     alone ∙ sym (new-alone (args .list .closing) (args .batch) (batchesOf (args .list)) (refuses-too alone (c .if1 .taken)))
 
 is-held-requires : tie.Need-is-held-requires
-is-held-requires c κs = sound _ (c .before .before .before .pre) .most
+is-held-requires c κs = search needs
 
 at-requires : tie.Need-at-requires
 at-requires c κs = search needs

@@ -1,5 +1,5 @@
 -- `is_held` answers whether a batch of the list has a number. The invariant: none of the first i has.
-use Prim.Native.Nat.{_≤_, _-_}
+use Prim.Native.Nat.{_≤_, _-_, min}
 use native.Mathlib.Omega.{arith}
 use mathlib.Core.Path.{_≡_, refl, sym, ap, _∙_}
 use mathlib.Core.Bool.{false}
@@ -8,7 +8,7 @@ use borrow.Author.Needs.{needs}
 use borrow.Author.Tests.{eq-eqb, ne-eqb}
 use Rattle.arrays.specs.Each.{someBelow}
 use Rattle.arrays.proofs.Each.{some-below, none-more}
-use Rattle.week.specs.Record.{numberAt}
+use Rattle.week.specs.Record.{maxBatches, numberAt}
 use Rattle.week.specs.Numbers.{isHeld}
 use Rattle.week.specs.Written.{batchesOf}
 use Rattle.week.proofs.Owned.{batches-owned}
@@ -26,8 +26,11 @@ abbrev μ-loop : tie.MeasureT-loop
 by-index : (c : tie.Start Inv-loop μ-loop) →
     let list = c .args .t1 in
     let number = c .args .number in
-    isHeld number (batchesOf list) ≡ someBelow (λ k. eqb (numberAt list k) number) (list .count)
-by-index c = held-below (c .args .t1) (batches-owned (c .args .t1) _ (c .good .0)) (c .pre) (c .args .number)
+    isHeld number (batchesOf list) ≡ someBelow (λ k. eqb (numberAt list k) number) (min (list .count) maxBatches)
+by-index c = held-below (c .args .t1) (batches-owned (c .args .t1) _ (c .good .0)) (c .args .number)
+
+places-requires : tie.Need-places-requires Inv-loop μ-loop
+places-requires c κs = search needs
 
 loop-holds : tie.Need-loop-holds Inv-loop μ-loop
 unfolding someBelow
@@ -41,8 +44,8 @@ element-copy-out-batch c = search needs
 
 returns : tie.Need-returns Inv-loop μ-loop
 returns c =
-    let in-loop = c .before .before .before in
-    sym (by-index (in-loop .before .before) ∙ some-below _ _ _ (omega arith) (eq-eqb _ _ (c .if1 .taken)))
+    let told = c .before .before .before .before .before in
+    sym (by-index (told .before) ∙ some-below _ _ _ (omega (arith, told .places .ensures)) (eq-eqb _ _ (c .if1 .taken)))
 
 add-i : tie.Need-add-i Inv-loop μ-loop
 add-i c = search needs
@@ -56,8 +59,10 @@ loop-again c = (omega arith, none-more _ _ (c .before .before .before .before .l
 returns-2 : tie.Need-returns-2 Inv-loop μ-loop
 returns-2 c =
     let over = c .before in
-    let end : over .loop .i ≡ over .before .args .t1 .count = omega (arith, over .loop .inv .0, c .loop-test .left) in
-    sym (by-index (over .before) ∙ ap (someBelow _) (sym end) ∙ over .loop .inv .1)
+    let told = over .before in
+    let end : over .loop .i ≡ min (told .before .args .t1 .count) maxBatches =
+    omega (arith, told .places .ensures, over .loop .inv .0, c .loop-test .left) in
+    sym (by-index (told .before) ∙ ap (someBelow _) (sym end) ∙ over .loop .inv .1)
 
 pub is-held-spec : {M : Type 1} → statement M
 is-held-spec =
@@ -65,6 +70,7 @@ is-held-spec =
     (tie.spec
     Inv-loop
     μ-loop
+    places-requires
     loop-holds
     mul-batch
     element-copy-out-batch

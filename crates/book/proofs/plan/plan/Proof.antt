@@ -1,8 +1,6 @@
 -- `plan` answers as Choose does, and hands the book back beside the plan.
 use mathlib.Core.Path.{sym}
 use borrow.Author.Needs.{needs}
-use Rattle.judge.specs.Fault.{WellFormed}
-use Rattle.judge.proofs.Sound.{sound}
 use Rattle.book.proofs.Answering.{plan-refused, plan-passed}
 use Rattle.book.proofs.plan.plan.Statement.{statement}
 use Rattle.book.proofs.plan.plan.Tie as tie
@@ -10,10 +8,6 @@ use Rattle.book.proofs.plan.plan.Tie as tie
 -- where Choose has answered
 abbrev chosen : tie.After-struct-known → tie.After-choose
 chosen c = c .before .before .before .before
-
--- what is planned is well formed
-formed : (c : tie.Else1) → WellFormed (chosen (c .before) .before .before .before .before .args .book .list)
-formed c = chosen (c .before) .choose .ensures .1 .1 .1 .1 .1 .0 (c .if1 .left) .0
 
 choose-requires : tie.Need-choose-requires
 choose-requires c κs = search needs
@@ -27,7 +21,7 @@ returns c =
     (sym (plan-refused _ _ (ensures .0) (c .if1 .taken)), ensures .1 .0)
 
 fresh-requires : tie.Need-fresh-requires
-fresh-requires c κs = sound _ (formed c) .most
+fresh-requires c κs = search needs
 
 same-length-2 : tie.Need-same-length-2
 same-length-2 c = search needs

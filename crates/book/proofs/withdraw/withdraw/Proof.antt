@@ -3,8 +3,6 @@ use mathlib.Core.Path.{_≡_, sym, _∙_}
 use borrow.Author.Needs.{needs}
 use Rattle.book.specs.Fault.{withdrawFault}
 use Rattle.week.proofs.First.{number-of}
-use Rattle.judge.proofs.Sound.{sound}
-use Rattle.book.proofs.Faults.{withdraw-passes}
 use Rattle.book.proofs.Answering.{withdraw-answers}
 use Rattle.book.proofs.withdraw.withdraw.Statement.{statement}
 use Rattle.book.proofs.withdraw.withdraw.Tie as tie
@@ -25,7 +23,7 @@ none-requires : tie.Need-none-requires
 none-requires c κs = search needs
 
 leave-out-requires : tie.Need-leave-out-requires
-leave-out-requires c κs = sound _ (withdraw-passes _ _ (passed (c .before)) .0) .most
+leave-out-requires c κs = search needs
 
 returns-2 : tie.Need-returns-2
 returns-2 c =

@@ -7,7 +7,6 @@ use Rattle.judge.specs.Fault.{WellFormed}
 use Rattle.book.specs.Fault.{leaveFault, withdrawFault}
 use Rattle.week.proofs.First.{number-of, refuses-too, refusedIf-true, refusedIf-false}
 use Rattle.judge.proofs.WellFormed.{list-proper}
-use Rattle.judge.proofs.Sound.{sound}
 use Rattle.book.proofs.Faults.{withdraw-list, withdraw-leave}
 use Rattle.book.proofs.withdraw.withdraw_fault.Statement.{statement}
 use Rattle.book.proofs.withdraw.withdraw_fault.Tie as tie
@@ -33,7 +32,7 @@ returns c =
     held ∙ sym (withdraw-list _ _ (refuses-too held (c .if1 .taken)))
 
 is-held-requires : tie.Need-is-held-requires
-is-held-requires c κs = sound _ (formed c) .most
+is-held-requires c κs = search needs
 
 at-requires : tie.Need-at-requires
 at-requires c κs = search needs

@@ -1,5 +1,5 @@
 -- `fresh` writes the same batches. The invariant: the week's minutes stand, and of its batches the first i.
-use Prim.Native.Nat.{_-_, _≤_}
+use Prim.Native.Nat.{_-_, _≤_, _<_, min}
 use native.Mathlib.Omega.{arith}
 use mathlib.Core.Path.{_≡_, sym, ap, _∙_}
 use mathlib.Core.List.{_++_}
@@ -10,7 +10,7 @@ use Rattle.week.specs.declared.record.Week.{Week}
 use Rattle.week.specs.Record.{maxBatches, emptyBatch, noBatch}
 use Rattle.week.specs.Written.{batchesOf}
 use Rattle.week.proofs.Owned.{batches-owned}
-use Rattle.week.proofs.Writing.{batches-counted, is-written}
+use Rattle.week.proofs.Writing.{batches-placed, placed-counted, is-written}
 use Rattle.week.proofs.written.fresh.Statement.{statement}
 use Rattle.week.proofs.written.fresh.Tie as tie
 
@@ -26,6 +26,9 @@ abbrev μ-loop : tie.MeasureT-loop
 
 long : (c : tie.Start Inv-loop μ-loop) → length (c .args .t1 .batches) ≡ maxBatches
 long c = batches-owned (c .args .t1) _ (c .good .0)
+
+places-requires : tie.Need-places-requires Inv-loop μ-loop
+places-requires c κs = search needs
 
 empty-requires : tie.Need-empty-requires Inv-loop μ-loop
 empty-requires c κs = search needs
@@ -61,7 +64,9 @@ loop-again : tie.Need-loop-again Inv-loop μ-loop
 loop-again c =
     let at = c .before .before in
     let inv = at .loop .inv in
-    let start = at .before .before in (
+    let told = at .before .before in
+    let start = told .before in
+    let room : at .loop .i < maxBatches = omega (arith, told .places .ensures) in (
       omega arith,
       inv .1,
       inv .2,
@@ -74,11 +79,14 @@ returns : tie.Need-returns Inv-loop μ-loop
 returns c =
     let at = c .before in
     let inv = at .loop .inv in
-    let start = at .before .before in
+    let told = at .before .before in
+    let start = told .before in
     let week = start .args .t1 in
-    let all : at .loop .i ≡ week .count = omega arith in
-    is-written (batchesOf week) (inv .1) (inv .2) (sym (batches-counted week (long start) (omega arith)))
-    (inv .3 ∙ rw all (front-padded maxBatches emptyBatch (week .batches) (week .count) (omega (arith, long start)) (omega arith)))
+    let n = min (week .count) maxBatches in
+    let all : at .loop .i ≡ n = omega (arith, told .places .ensures) in
+    is-written (batchesOf week) (inv .1) (inv .2) (told .places .ensures ∙ sym (placed-counted week (long start)))
+    (inv .3 ∙ rw (all, ← batches-placed week (long start))
+    (front-padded maxBatches emptyBatch (week .batches) n (omega (arith, long start)) (omega arith)))
 
 pub fresh-spec : {M : Type 1} → statement M
 fresh-spec =
@@ -86,6 +94,7 @@ fresh-spec =
     (tie.spec
     Inv-loop
     μ-loop
+    places-requires
     empty-requires
     loop-holds
     mul-batch

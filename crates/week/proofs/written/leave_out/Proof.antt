@@ -1,6 +1,6 @@
 -- `leave_out` leaves out the batches of a number. The invariant: the week's minutes stand, and of its first i batches the others stand
 -- in the first places.
-use Prim.Native.Nat.{_-_, _≤_, _<_}
+use Prim.Native.Nat.{_-_, _≤_, _<_, min}
 use native.Mathlib.Omega.{arith}
 use mathlib.Core.Path.{_≡_, refl, ap}
 use mathlib.Core.Logic.{⊎-elim}
@@ -11,7 +11,7 @@ use Rattle.week.specs.Record.{maxBatches}
 use Rattle.week.specs.Numbers.{without}
 use Rattle.week.specs.Written.{batchesOf}
 use Rattle.week.proofs.Owned.{batches-owned}
-use Rattle.week.proofs.Writing.{is-written}
+use Rattle.week.proofs.Writing.{batches-placed, is-written}
 use Rattle.week.proofs.LeftOut.{LeftOut, passed-over, stored-next}
 use Rattle.week.proofs.written.leave_out.Statement.{statement}
 use Rattle.week.proofs.written.leave_out.Tie as tie
@@ -29,6 +29,9 @@ abbrev μ-loop : tie.MeasureT-loop
 
 long : (c : tie.Start Inv-loop μ-loop) → length (c .args .t1 .batches) ≡ maxBatches
 long c = batches-owned (c .args .t1) _ (c .good .0)
+
+places-requires : tie.Need-places-requires Inv-loop μ-loop
+places-requires c κs = search needs
 
 empty-requires : tie.Need-empty-requires Inv-loop μ-loop
 empty-requires c κs = search needs
@@ -69,8 +72,10 @@ loop-again : tie.Need-loop-again Inv-loop μ-loop
 loop-again c =
     let at = c .before .before .before .before in
     let inv = at .loop .inv in
-    let start = at .before .before in
+    let told = at .before .before in
+    let start = told .before in
     let xs = start .args .t1 .batches in
+    let room : at .loop .i < maxBatches = omega (arith, told .places .ensures) in
     let more : at .loop .i < length xs = omega (arith, long start) in
     ⊎-elim
     (λ w. (
@@ -78,7 +83,7 @@ loop-again c =
       omega (arith, w .2),
       rw (w .1) (inv .2),
       rw (w .1) (inv .3),
-      rw (w .1, w .2) (stored-next _ xs (at .loop .i) more (inv .4) (w .0 .taken) (omega arith)),
+      rw (w .1, w .2) (stored-next _ xs (at .loop .i) more (inv .4) (w .0 .taken) room),
     ))
     (λ w. (
       omega arith,
@@ -93,10 +98,12 @@ returns : tie.Need-returns Inv-loop μ-loop
 returns c =
     let at = c .before in
     let inv = at .loop .inv in
-    let args = at .before .before .args in
-    let all : at .loop .i ≡ args .t1 .count = omega arith in
+    let told = at .before .before in
+    let args = told .before .args in
+    let all : at .loop .i ≡ min (args .t1 .count) maxBatches = omega (arith, told .places .ensures) in
     let h = rw all at (inv .4) in
-    is-written (without (args .number) (batchesOf (args .t1))) (inv .2) (inv .3) (h .counted) (h .stored)
+    let same = batches-placed (args .t1) (long (told .before)) in
+    is-written (without (args .number) (batchesOf (args .t1))) (inv .2) (inv .3) (rw same at (h .counted)) (rw same at (h .stored))
 
 pub leave-out-spec : {M : Type 1} → statement M
 leave-out-spec =
@@ -104,6 +111,7 @@ leave-out-spec =
     (tie.spec
     Inv-loop
     μ-loop
+    places-requires
     empty-requires
     loop-holds
     mul-batch
