@@ -14,28 +14,28 @@ use Rattle.text.specs.Line.{lineOf, refusalLine}
 use Rattle.answer.specs.declared.operation.AnswerText.{AnswerText}
 use Rattle.answer.specs.Line.{totalLine, ranLine, recipesLine, stretchesLine, outcomesLine, ranWidth, batchesWidth}
 
--- `choose`, and `plan`, which answers "as `choose`": "`plan TOTAL`, then `recipes K K ..`", for a list of n batches; "A refusal is
--- answered `refused N P R` and nothing else."
+-- `choose`, and `plan`, which answers ‘as `choose`’: ‘`plan TOTAL`, then `recipes K K ..`’, for a list of n batches; ‘A refusal is
+-- answered `refused N P R` and nothing else.’
 unfoldable pub planText : ℕ → Plan → List ℕ
 planText n plan =
     answerBy (plan .refusal) refusalLine (totalLine (bytes "plan") (plan .total) ++ recipesLine (take n (plan .choice)))
 
--- `check`: "`passed TOTAL`, then `stretches S E S E ..`"
+-- `check`: ‘`passed TOTAL`, then `stretches S E S E ..`’
 unfoldable pub checkText : ℕ → Checked → List ℕ
 checkText n checked =
     answerBy (checked .refusal) refusalLine
     (totalLine (bytes "passed") (checked .total) ++ stretchesLine (take n (checked .stretches)))
 
--- `run`: "`ran changes N idle N`, then `outcomes ..`"
+-- `run`: ‘`ran changes N idle N`, then `outcomes ..`’
 unfoldable pub runText : ℕ → WeekRun → List ℕ
 runText n ran =
     answerBy (ran .refusal) refusalLine (ranLine (ran .changes) (ran .idle) ++ outcomesLine (take n (ran .batches)))
 
--- `open`, `add`, `withdraw`: "`ok`"
+-- `open`, `add`, `withdraw`: ‘`ok`’
 unfoldable pub okText : Refusal → List ℕ
 okText refusal = answerBy refusal refusalLine (lineOf (bytes "ok") [])
 
--- "is answered `no command: line N`, N counted from 1"
+-- ‘is answered `no command: line N`, N counted from 1’
 unfoldable pub noCommandText : ℕ → List ℕ
 noCommandText line = lineOf (bytes "no command: line") (decimal line ∷ [])
 

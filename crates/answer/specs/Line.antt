@@ -1,4 +1,4 @@
--- The lines of an answer: docs/WEEKDESK.md, "The operations".
+-- The lines of an answer: docs/WEEKDESK.md, ‘The operations’.
 use Prim.Native.Nat.{ℕ, _+_, _*_}
 use mathlib.Core.List.{List, [], _∷_, map, flatten}
 use Rattle.arrays.specs.Text.{bytes}
@@ -10,11 +10,11 @@ use Rattle.planner.specs.declared.run.BatchRun.{BatchRun}
 use Rattle.text.specs.Decimal.{decimal}
 use Rattle.text.specs.Line.{lineOf}
 
--- "`plan TOTAL`", "`passed TOTAL`"
+-- ‘`plan TOTAL`’, ‘`passed TOTAL`’
 unfoldable pub totalLine : List ℕ → ℕ → List ℕ
 totalLine word total = lineOf word (decimal total ∷ [])
 
--- "`ran changes N idle N`"
+-- ‘`ran changes N idle N`’
 unfoldable pub ranLine : (changes idle : ℕ) → List ℕ
 ranLine changes idle = lineOf (bytes "ran") (bytes "changes" ∷ decimal changes ∷ bytes "idle" ∷ decimal idle ∷ [])
 
@@ -22,21 +22,21 @@ ranLine changes idle = lineOf (bytes "ran") (bytes "changes" ∷ decimal changes
 abbrev pub eachLine : {A : Type 0} → List ℕ → (A → List (List ℕ)) → List A → List ℕ
 eachLine word fields batches = lineOf word (flatten (map fields batches))
 
--- "`recipes K K ..`"
+-- ‘`recipes K K ..`’
 abbrev pub recipeFields : ℕ → List (List ℕ)
 recipeFields recipe = map decimal (recipe ∷ [])
 
 unfoldable pub recipesLine : List ℕ → List ℕ
 recipesLine = eachLine (bytes "recipes") recipeFields
 
--- "`stretches S E S E ..`"
+-- ‘`stretches S E S E ..`’
 abbrev pub stretchFields : Stretch → List (List ℕ)
 stretchFields s = map decimal (s .start ∷ s .end ∷ [])
 
 unfoldable pub stretchesLine : List Stretch → List ℕ
 stretchesLine = eachLine (bytes "stretches") stretchFields
 
--- "`outcomes ..`: for each batch `aside`, `finished M` or `unfinished M`"
+-- ‘`outcomes ..`: for each batch `aside`, `finished M` or `unfinished M`’
 unfoldable pub outcomeFields : Outcome → List (List ℕ)
 outcomeFields SetAside = bytes "aside" ∷ []
 outcomeFields (Finished minute) = bytes "finished" ∷ decimal minute ∷ []

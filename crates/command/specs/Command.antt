@@ -1,4 +1,4 @@
--- Which command a line is: docs/WEEKDESK.md, "Lines".
+-- Which command a line is: docs/WEEKDESK.md, ‘Lines’.
 use Prim.Native.Nat.{ℕ}
 use mathlib.Core.Bool.{Bool, false, cond}
 use mathlib.Core.List.{List, [], _∷_}
@@ -44,7 +44,7 @@ named name.Hold words = exactlyCommand 0 kind.Hold (numbersOf words)
 named name.Help words = exactlyCommand 0 kind.Help (numbersOf words)
 named name.Unknown words = ofKind kind.Unknown
 
--- "An empty line, .. is passed over.": one without a word
+-- ‘An empty line, .. is passed over.’: one without a word
 unfoldable pub byWords : List (List ℕ) → Command
 byWords [] = ofKind kind.Nothing
 byWords (word ∷ words) = named (nameOf word) words
@@ -53,13 +53,13 @@ byWords (word ∷ words) = named (nameOf word) words
 abbrev pub hash : ℕ
 hash = 35
 
--- "and one that begins with `#`"
+-- ‘and one that begins with `#`’
 unfoldable pub isComment : List ℕ → Bool
 isComment [] = false
 isComment (b ∷ bs) = eqb b hash
 
--- "A line that is no command, has a word or number too many or too few, or is longer than 4,096 bytes is answered `no command: line
--- N`"
+-- ‘A line that is no command, has a word or number too many or too few, or is longer than 4,096 bytes is answered `no command: line
+-- N`’
 unfoldable pub commandIn : List ℕ → Command
 commandIn line =
     cond (isComment line) (ofKind kind.Nothing) (cond (ltb maxLine (length line)) (ofKind kind.Unknown) (byWords (wordsOf line)))

@@ -101,7 +101,7 @@ table =
     ∷ (bytes "batch 7 0 40 30 9 10 4" means aBatch OneBatch 7 0 40 2 ((30 for 9) ∷ (10 for 4) ∷ []))
     ∷ (bytes "batch 8 20 60" means aBatch OneBatch 8 20 60 0 [])
     ∷ (ones "batch" 25 means aBatch OneBatch 1 1 1 11 (replicate 10 (1 for 1)))
-    -- what is lent: "V may be left out and is 0 then"; "At most 40,000 and 4,000 bytes"
+    -- what is lent: ‘V may be left out and is 0 then’; ‘At most 40,000 and 4,000 bytes’
     ∷ ("table 303 9" asks Table 303 9)
     ∷ ("table 40000 255" asks Table 40000 255)
     ∷ ("log 4000" asks Log 4000 0)
@@ -165,7 +165,7 @@ table =
     ∷ ("plan 1" asks Unknown)
     ∷ ("book 1" asks Unknown)
     ∷ ("hold 1" asks Unknown)
-    -- "longer than 4,096 bytes": spaces count; but a comment of any length is passed over
+    -- ‘longer than 4,096 bytes’: spaces count; but a comment of any length is passed over
     ∷ (spaces "help" 4092 means ofKind Help)
     ∷ (spaces "help" 4093 means ofKind Unknown)
     ∷ (spaces "" 4097 means ofKind Unknown)

@@ -26,8 +26,8 @@ valueAt values i = getD values i 0
 unfoldable pub exactlyCommand : ℕ → Kind → Numbers → Command
 exactlyCommand n k numbers = knownIf (numbers .valid && eqb (numbers .count) n) (ofKind k)
 
--- "batch NUMBER R D COST WORTH COST WORTH ..", "add NUMBER R D COST WORTH ..": "any number of recipes (the count as written, the first
--- ten kept ..)"
+-- ‘batch NUMBER R D COST WORTH COST WORTH ..’, ‘add NUMBER R D COST WORTH ..’: ‘any number of recipes (the count as written, the first
+-- ten kept ..)’
 abbrev pub recipeFrom : List ℕ → ℕ → Recipe
 recipeFrom values k = record { cost = valueAt values (3 + 2 * k); worth = valueAt values (4 + 2 * k) }
 
@@ -47,8 +47,8 @@ unfoldable pub batchCommand : Kind → Numbers → Command
 batchCommand k numbers =
     knownIf (numbers .valid && leb 3 (numbers .count) && eqb (numbers .count % 2) 1) (ofBatch k (batchFrom numbers))
 
--- "table SIZE V", "log SIZE V": "V may be left out and is 0 then"; "At most 40,000 and 4,000 bytes; above that, no command."; "the
--- byte V, is at most 255"
+-- ‘table SIZE V’, ‘log SIZE V’: ‘V may be left out and is 0 then’; ‘At most 40,000 and 4,000 bytes; above that, no command.’; ‘the
+-- byte V, is at most 255’
 abbrev pub maxByte : ℕ
 maxByte = 255
 
@@ -65,7 +65,7 @@ unfoldable pub logCommand : Numbers → Command
 logCommand numbers =
     knownIf (lendsUpTo maxLog numbers) (ofKind (kind.Log (valueAt (numbers .values) 0) (valueAt (numbers .values) 1)))
 
--- "check K K ..", "run K K ..": "A recipe number in a choice .. is at most 255; a choice has at most 255 of them, and may have none"
+-- ‘check K K ..’, ‘run K K ..’: ‘A recipe number in a choice .. is at most 255; a choice has at most 255 of them, and may have none’
 unfoldable pub areBytes : List ℕ → Bool
 areBytes [] = true
 areBytes (v ∷ vs) = leb v maxByte && areBytes vs

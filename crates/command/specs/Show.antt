@@ -1,4 +1,4 @@
--- What is shown, by the word after `show`: docs/WEEKDESK.md, "The operations".
+-- What is shown, by the word after `show`: docs/WEEKDESK.md, ‘The operations’.
 use Prim.Native.Nat.{ℕ}
 use mathlib.Core.Bool.{cond}
 use mathlib.Core.List.{List, [], _∷_}

@@ -1,5 +1,5 @@
--- "of the batches the count, and the first 64 kept": what a list holds once its batches are written down, one after the other; and
--- "the first 16 of them and the count": what it hands in.
+-- ‘of the batches the count, and the first 64 kept’: what a list holds once its batches are written down, one after the other; and
+-- ‘the first 16 of them and the count’: what it hands in.
 use Prim.Native.Nat.{ℕ, suc, min}
 use native.Mathlib.Decide.{decLt}
 use native.Mathlib.Omega.{arith}

@@ -25,7 +25,7 @@ use Rattle.draft.specs.Sheet.{batchFrames, sheetFrames, sheetLines}
 abbrev recipe : ℕ → ℕ → Recipe
 recipe cost worth = record { cost = cost; worth = worth }
 
--- a batch with any number of recipes: "the count as written, the first ten kept"
+-- a batch with any number of recipes: ‘the count as written, the first ten kept’
 abbrev batch : (number arrival due : ℕ) → List Recipe → Batch
 batch number arrival due recipes =
     record {
@@ -88,10 +88,10 @@ table =
     ∷ (holds (numbered 64) is (64 ∷ 64 ∷ 64 ∷ 65 ∷ []))
     ∷ (holds (numbered 65) is (65 ∷ 64 ∷ 64 ∷ 65 ∷ []))
     ∷ (holds (numbered 66) is (65 ∷ 64 ∷ 64 ∷ 65 ∷ []))
-    -- "the first 16 of them and the count"
+    -- ‘the first 16 of them and the count’
     ∷ (hands (weekOf (numbered 2)) is (0 ∷ 9 ∷ 2 ∷ 16 ∷ 1 ∷ 0 ∷ []))
     ∷ (hands (weekOf (numbered 17)) is (0 ∷ 9 ∷ 17 ∷ 16 ∷ 1 ∷ 16 ∷ []))
-    -- "the book's list as `list` prints one": of case W, and of seventeen batches, whose last a list by value has not got
+    -- ‘the book's list as `list` prints one’: of case W, and of seventeen batches, whose last a list by value has not got
     ∷ (ofWeek (weekOf caseW)
     prints "week 0 100\nbatch 7 0 40 30 9 10 4\nbatch 8 20 60 30 8 0 0\nbatch 9 0 100 50 10 20 5\n")
     ∷ (holds (ofWeek (weekOf (numbered 17))) is (17 ∷ 64 ∷ 0 ∷ 18 ∷ []))
@@ -105,7 +105,7 @@ table =
     ∷ (one (batch 1 2 3 (replicate 10 (recipe 5 6)))
     frames
     "0100000009\n020001000200030A00050006000500060005000600050006000500060005000600050006000500060005000600050006\n")
-    -- sixteen batches, and seventeen: "the list's own refusal 3"; a second batch of eleven recipes: 4, which 3 comes before
+    -- sixteen batches, and seventeen: ‘the list's own refusal 3’; a second batch of eleven recipes: 4, which 3 comes before
     ∷ ((length (sheetLines (numbered 16)) ∷ []) is (17 ∷ []))
     ∷ (numbered 17 frames "refused 3 0 0\n")
     ∷ (withBatches (emptyDraft 0 9) (batch 1 2 3 [] ∷ batch 1 2 3 (replicate 11 (recipe 5 6)) ∷ []) frames "refused 4 2 0\n")

@@ -1,4 +1,4 @@
--- A list as the commands that write it down: docs/WEEKDESK.md, "The operations".
+-- A list as the commands that write it down: docs/WEEKDESK.md, ‘The operations’.
 use Prim.Native.Nat.{ℕ, suc, _+_, _*_, min}
 use mathlib.Core.List.{List, [], _∷_, map, flatten}
 use lib.ListN.{length, getD}
@@ -34,7 +34,7 @@ recipesText b = spaced (map decimal (recipesNumbers b (printed b)))
 abbrev pub batchNumbers : Batch → List ℕ
 batchNumbers b = b .number ∷ b .arrival ∷ b .due ∷ recipesNumbers b (printed b)
 
--- "batch NUMBER R D COST WORTH COST WORTH .."
+-- ‘batch NUMBER R D COST WORTH COST WORTH ..’
 unfoldable pub batchLine : Batch → List ℕ
 batchLine b = lineOf (bytes "batch") (map decimal (batchNumbers b))
 
@@ -49,7 +49,7 @@ batchWidth = 5 + 3 * 6 + maxPrinted * recipeWidth + 1
 abbrev pub maxList : ℕ
 maxList = weekWidth + maxKept * batchWidth
 
--- "the list as the commands that write it down": the week, and every batch that is kept
+-- ‘the list as the commands that write it down’: the week, and every batch that is kept
 unfoldable pub batchLines : Draft → ℕ → List (List ℕ)
 batchLines d n = tabulate (λ i. batchLine (getD (d .batches) i noBatch)) 0 n
 

@@ -1,4 +1,4 @@
--- A list as it is written down: docs/WEEKDESK.md, "What is written down".
+-- A list as it is written down: docs/WEEKDESK.md, ‘What is written down’.
 use Prim.Native.Nat.{ℕ, suc, min}
 use mathlib.Core.Bool.{cond}
 use mathlib.Core.List.{List, [], _∷_}
@@ -10,15 +10,15 @@ use Rattle.week.specs.declared.record.Week.{Week}
 use Rattle.week.specs.Record.{maxBatches, emptyBatch}
 use Rattle.draft.specs.declared.record.Draft.{Draft}
 
--- "the first 64 kept"
+-- ‘the first 64 kept’
 abbrev pub maxKept : ℕ
 maxKept = 64
 
--- "week T C": "a new list, of no batches"
+-- ‘week T C’: ‘a new list, of no batches’
 abbrev pub emptyDraft : ℕ → ℕ → Draft
 emptyDraft t c = record { opening = t; closing = c; count = 0; batches = replicate maxKept emptyBatch }
 
--- "batch ..": "one batch more"; the count goes up to one more than are kept
+-- ‘batch ..’: ‘one batch more’; the count goes up to one more than are kept
 unfoldable pub withBatch : Draft → Batch → Draft
 withBatch d b =
     record {
@@ -33,7 +33,7 @@ unfoldable pub withBatches : Draft → List Batch → Draft
 withBatches d [] = d
 withBatches d (b ∷ bs) = withBatches (withBatch d b) bs
 
--- "of the batches the count, and the first 64 kept": a list by its batches as they were written down
+-- ‘of the batches the count, and the first 64 kept’: a list by its batches as they were written down
 unfoldable pub draftOf : ℕ → ℕ → List Batch → Draft
 draftOf t c bs =
     record {
@@ -43,7 +43,7 @@ draftOf t c bs =
       batches = padded maxKept emptyBatch (take maxKept bs);
     }
 
--- "an operation over a list by value is handed the first 16 of them and the count"
+-- ‘an operation over a list by value is handed the first 16 of them and the count’
 unfoldable pub weekOf : Draft → Week
 weekOf d =
     record { opening = d .opening; closing = d .closing; count = d .count; batches = take maxBatches (d .batches) }
@@ -58,7 +58,7 @@ weekHanded t c bs =
       batches = padded maxBatches emptyBatch (take maxBatches bs);
     }
 
--- "`book`": "the book's list as `list` prints one": a list by value as one that is written down, with empty batches beyond its places
+-- ‘`book`’: ‘the book's list as `list` prints one’: a list by value as one that is written down, with empty batches beyond its places
 unfoldable pub ofWeek : Week → Draft
 ofWeek w =
     record { opening = w .opening; closing = w .closing; count = w .count; batches = padded maxKept emptyBatch (w .batches) }

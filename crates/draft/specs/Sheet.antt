@@ -1,4 +1,4 @@
--- A list as the publisher's sheet: docs/WEEKDESK.md, "The operations", and document 01, "The sheet".
+-- A list as the publisher's sheet: docs/WEEKDESK.md, ‘The operations’, and document 01, "The sheet".
 use Prim.Native.Nat.{ℕ, suc, _+_, _-_, _*_, _/_, _%_, _≤_, _<_}
 use mathlib.Core.Bool.{cond}
 use mathlib.Core.List.{List, [], _∷_, _++_, flatten}
@@ -54,7 +54,7 @@ recipeLength = 8
 abbrev pub batchIn : Draft → ℕ → Batch
 batchIn d i = getD (d .batches) i noBatch
 
--- "the list's own refusal 3 or 4 if it cannot be written": more batches than a list has, or recipes that were not kept
+-- ‘the list's own refusal 3 or 4 if it cannot be written’: more batches than a list has, or recipes that were not kept
 unfoldable pub unkept : Draft → ℕ → Refusal
 unkept d i = refusedIf 4 (suc i) 0 (ltb maxRecipes (batchIn d i .count))
 

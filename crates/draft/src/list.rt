@@ -1,4 +1,4 @@
-// A list as the commands that write it down: docs/WEEKDESK.md, "The operations".
+// A list as the commands that write it down: docs/WEEKDESK.md, ‘The operations’.
 use crate::record::Draft;
 use text::line::WEEK_WIDTH;
 use text::line::week_line;
@@ -87,7 +87,7 @@ fn list_lines(text: &mut [u8], draft: Draft) -> usize
     end
 }
 
-// "the list as the commands that write it down". The answer on every list.
+// ‘the list as the commands that write it down’. The answer on every list.
 pub fn list_text(draft: Draft) -> ListText
     ensures answer { λ r. ⌜ r ≡ listAnswer draft ⌝ }
     ensures fits { λ r. ⌜ Counts (r .len) (r .bytes) ⌝ }

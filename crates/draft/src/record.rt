@@ -1,4 +1,4 @@
-// A list as it is written down: docs/WEEKDESK.md, "What is written down".
+// A list as it is written down: docs/WEEKDESK.md, ‘What is written down’.
 use week::record::Batch;
 use week::record::Week;
 ghost use mathlib.Core.Path.{_≡_};
@@ -15,7 +15,7 @@ pub struct Draft {
 impl Draft {
     pub const MAX_BATCHES: usize = 64;
 
-    // `week T C`: "a new list, of no batches".
+    // `week T C`: ‘a new list, of no batches’.
     pub fn empty(opening: u16, closing: u16) -> Draft
         ensures { λ r. ⌜ r ≡ emptyDraft opening closing ⌝ }
     {
@@ -28,7 +28,7 @@ impl Draft {
         }
     }
 
-    // `batch ..`: "one batch more, as handed in".
+    // `batch ..`: ‘one batch more, as handed in’.
     pub fn with_batch(mut self, batch: Batch) -> Draft
         ensures { λ r. ⌜ r ≡ withBatch self batch ⌝ }
     {
@@ -42,7 +42,7 @@ impl Draft {
         self
     }
 
-    // "an operation over a list by value is handed the first 16 of them and the count"
+    // ‘an operation over a list by value is handed the first 16 of them and the count’
     pub fn week(self) -> Week
         ensures { λ r. ⌜ r ≡ weekOf self ⌝ }
     {

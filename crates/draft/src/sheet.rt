@@ -1,4 +1,4 @@
-// A list as the publisher's sheet: docs/WEEKDESK.md, "The operations", and document 01, "The sheet".
+// A list as the publisher's sheet: docs/WEEKDESK.md, ‘The operations’, and document 01, "The sheet".
 use crate::hex::put_byte;
 use crate::hex::put_value;
 use crate::record::Draft;
@@ -118,7 +118,7 @@ fn sheet_lines(text: &mut [u8], draft: Draft) -> usize
     frames(text, draft)
 }
 
-// "the list as a sheet, in frames 02 (the list's own refusal 3 or 4 if it cannot be written)". The answer on every list.
+// ‘the list as a sheet, in frames 02 (the list's own refusal 3 or 4 if it cannot be written)’. The answer on every list.
 pub fn sheet_text(draft: Draft) -> SheetText
     ensures answer { λ r. ⌜ r ≡ sheetAnswer draft ⌝ }
     ensures fits { λ r. ⌜ Counts (r .len) (r .bytes) ⌝ }

@@ -18,7 +18,7 @@ lent shows text = shownRest lent is bytes text
 
 table : List Example
 table =
-    -- "`0x10 2x20 1x71` is ten 0s, twenty 2s, seventy-one 1s"
+    -- ‘`0x10 2x20 1x71` is ten 0s, twenty 2s, seventy-one 1s’
     (replicate 10 0 ++ (replicate 20 2 ++ replicate 71 1) shows " 0x10 2x20 1x71\n")
     -- the log of case W, in the 2,400 bytes that are lent at the start
     ∷ (replicate 10 1 ++ (replicate 10 3 ++ (replicate 30 2 ++ (replicate 40 3 ++ replicate 2310 0)))

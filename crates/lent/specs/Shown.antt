@@ -1,4 +1,4 @@
--- The bytes of a table or a log, in runs: docs/WEEKDESK.md, "The operations".
+-- The bytes of a table or a log, in runs: docs/WEEKDESK.md, ‘The operations’.
 use Prim.Native.Nat.{ℕ, suc, _+_, _*_, _≤_}
 use mathlib.Core.Path.{_≡_}
 use mathlib.Core.Bool.{cond}
@@ -30,11 +30,11 @@ unfoldable pub runsOf : List ℕ → List Run
 runsOf [] = []
 runsOf (b ∷ bs) = joined b (runsOf bs)
 
--- "`0x10 2x20 1x71` is ten 0s, twenty 2s, seventy-one 1s"
+-- ‘`0x10 2x20 1x71` is ten 0s, twenty 2s, seventy-one 1s’
 unfoldable pub runField : Run → List ℕ
 runField r = decimal (r .value) ++ (bytes "x" ++ decimal (r .count))
 
--- "`table` or `log`, then every byte lent, in runs": what follows the word
+-- ‘`table` or `log`, then every byte lent, in runs’: what follows the word
 unfoldable pub shownRest : List ℕ → List ℕ
 shownRest lent = restOf (map runField (runsOf (take maxTable lent)))
 

@@ -1,4 +1,4 @@
--- How much can be lent: docs/WEEKDESK.md, "What is written down": "At most 40,000 and 4,000 bytes".
+-- How much can be lent: docs/WEEKDESK.md, ‘What is written down’: ‘At most 40,000 and 4,000 bytes’.
 use Prim.Native.Nat.{ℕ}
 
 abbrev pub maxTable : ℕ

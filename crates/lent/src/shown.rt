@@ -1,4 +1,4 @@
-// The bytes of a table or a log as text, in runs: docs/WEEKDESK.md, "The operations".
+// The bytes of a table or a log as text, in runs: docs/WEEKDESK.md, ‘The operations’.
 use crate::MAX_TABLE;
 use text::put::put;
 use text::put::put_decimal;
@@ -70,7 +70,7 @@ fn put_runs(text: &mut [u8], bytes: &[u8]) -> usize
     put(text, end, b"\n")
 }
 
-// "every byte lent, in runs: `0x10 2x20 1x71` is ten 0s, twenty 2s, seventy-one 1s": what follows the word. The answer on every slice;
+// ‘every byte lent, in runs: `0x10 2x20 1x71` is ten 0s, twenty 2s, seventy-one 1s’: what follows the word. The answer on every slice;
 // of one that is longer than can be lent, on as many bytes as can.
 pub fn shown_text(lent: &[u8]) -> ShownText
     ensures answer { λ r. ⌜ r ≡ shownAnswer (now (lent .entry)) ⌝ }

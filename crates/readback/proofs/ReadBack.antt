@@ -111,7 +111,7 @@ module _ (d : Draft) where
         writable .most,
       )
 
-  -- "the list as a sheet": 18, 16 and 17 pass it, and what is read is the list again
+  -- ‘the list as a sheet’: 18, 16 and 17 pass it, and what is read is the list again
   pub read-back : Sized d → sheetFault d .number ≡ 0 → ReadBack d (flatten (sheetLines d))
   read-back sized passed =
       let can = writable d passed in

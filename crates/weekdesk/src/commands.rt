@@ -144,7 +144,7 @@ fn plan(mut desk: Desk, table: &mut [u8]) -> Desk {
     say(desk, plan_text(planned.plan, list.count))
 }
 
-// `hold`: "the book now holds the list written down, as it stands".
+// `hold`: ‘the book now holds the list written down, as it stands’.
 fn hold(mut desk: Desk) -> Desk {
     let draft = desk.draft;
     let book = Book { list: draft.week() };
@@ -152,7 +152,7 @@ fn hold(mut desk: Desk) -> Desk {
     desk
 }
 
-// `book`: "the book's list as `list` prints one".
+// `book`: ‘the book's list as `list` prints one’.
 fn print_book(desk: Desk) -> Desk {
     let book = desk.book;
     list(desk, Draft::of_week(book.list))

@@ -1,4 +1,4 @@
--- Lines that come in pieces: docs/WEEKDESK.md, "Lines": "A line is words with spaces between them, ended by a line feed".
+-- Lines that come in pieces: docs/WEEKDESK.md, ‘Lines’: ‘A line is words with spaces between them, ended by a line feed’.
 use Prim.Native.Nat.{ℕ, suc, _+_}
 use mathlib.Core.Bool.{Bool, true, false, cond}
 use mathlib.Core.List.{List, [], _∷_}
@@ -8,7 +8,7 @@ use Rattle.arrays.specs.Text.{lineFeed}
 use Rattle.words.specs.declared.line.Line.{Line}
 use Rattle.words.specs.declared.line.Extension.{Extension}
 
--- "longer than 4,096 bytes"
+-- ‘longer than 4,096 bytes’
 abbrev pub maxLine : ℕ
 maxLine = 4096
 

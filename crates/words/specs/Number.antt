@@ -1,4 +1,4 @@
--- Words that are numbers: docs/WEEKDESK.md, "Lines": "A number is one to five decimal digits, at most 65,535."
+-- Words that are numbers: docs/WEEKDESK.md, ‘Lines’: ‘A number is one to five decimal digits, at most 65,535.’
 use Prim.Native.Nat.{ℕ}
 use mathlib.Core.Bool.{Bool, true, cond, _&&_}
 use mathlib.Core.List.{List, [], _∷_}

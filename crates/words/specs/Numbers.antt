@@ -1,4 +1,4 @@
--- The numbers that words are, all of them or none: docs/WEEKDESK.md, "Lines".
+-- The numbers that words are, all of them or none: docs/WEEKDESK.md, ‘Lines’.
 use Prim.Native.Nat.{ℕ}
 use mathlib.Core.Bool.{Bool, true, false, cond, _&&_}
 use mathlib.Core.List.{List, [], _∷_, map}
@@ -8,7 +8,7 @@ use Rattle.text.specs.Decimal.{valueAfter}
 use Rattle.words.specs.declared.numbers.Numbers.{Numbers}
 use Rattle.words.specs.Number.{isNumber}
 
--- "a choice has at most 255 of them": how many are kept
+-- ‘a choice has at most 255 of them’: how many are kept
 abbrev pub maxKept : ℕ
 maxKept = 255
 

@@ -1,4 +1,4 @@
--- The words of a line: docs/WEEKDESK.md, "Lines": "A line is words with spaces between them".
+-- The words of a line: docs/WEEKDESK.md, ‘Lines’: ‘A line is words with spaces between them’.
 use Prim.Native.Nat.{ℕ, _<_}
 use mathlib.Core.Path.{_≡_}
 use mathlib.Core.Bool.{cond}

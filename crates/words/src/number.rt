@@ -13,7 +13,7 @@ pub enum Number {
     NotOne,
 }
 
-// "A number is one to five decimal digits, at most 65,535."
+// ‘A number is one to five decimal digits, at most 65,535.’
 pub fn number_of(word: &[u8]) -> Number
     ensures { λ r. ⌜ r ≡ numberOf (now (word .entry)) ⌝ }
 {
