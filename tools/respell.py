@@ -35,6 +35,19 @@ def defined(top):
     return found
 
 
+def imported(top):
+    """The names that a file takes from a library: those keep their spelling."""
+    own = set(os.listdir(os.path.join(top, "crates")))
+    found = set()
+    for kind in ("specs", "proofs"):
+        for path in glob.glob(os.path.join(top, "crates/*", kind, "**/*.antt"), recursive=True):
+            with open(path, encoding="utf-8") as f:
+                for module, words in re.findall(r"use ([^\s{}]+)\.\{([^}]*)\}", f.read()):
+                    if not (module.startswith("Rattle.") and module.split(".")[1] in own):
+                        found.update(word.strip().split(" as ")[0] for word in words.split(","))
+    return found
+
+
 def snake(word):
     if not word[:1].islower():
         return word
@@ -60,7 +73,8 @@ def names(top):
     clash = [to for to, count in collections.Counter(new.values()).items() if count > 1]
     if clash:
         sys.exit(f"respell: these names fall together: {clash}")
-    return {old: to for old, to in new.items() if old != to}
+    kept = imported(top)
+    return {old: to for old, to in new.items() if old != to and old not in kept}
 
 
 def files(top):

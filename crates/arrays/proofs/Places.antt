@@ -100,8 +100,8 @@ module _ {A : Type 0} where
   backward_forward : (d : A) (xs ys : List A) → backward d (forward xs ++ ys) (length xs) ≡ xs
   backward_forward d [] ys = refl
   backward_forward d (x ∷ xs) ys =
-      rw append_assoc
-      (ap₂ ◌∷◌ (get_or_at (forward xs) x ys d (length xs) (length_forward xs)) (backward_forward d xs (x ∷ ys)))
+      ap (λ (zs : List A). backward d zs (suc (length xs))) (append_assoc (forward xs) (x ∷ []) ys)
+      ∙ ap₂ ◌∷◌ (get_or_at (forward xs) x ys d (length xs) (length_forward xs)) (backward_forward d xs (x ∷ ys))
 
   -- the entries of the list, read from its length down, are the list again
   pub backward_placed : (m : ℕ) (d : A) (xs : List A) → backward d (placed m d xs) (length xs) ≡ xs

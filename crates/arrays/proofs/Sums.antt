@@ -5,7 +5,7 @@ use native.Mathlib.Omega.{arith}
 use mathlib.Core.Path.{◌≡◌, ap}
 use mathlib.Core.Bool.{cond}
 use lib.Dec.{eqb}
-use borrow.Author.Tests.{eq_eqb, ne_eqb}
+use borrow.Author.Tests.{eq-eqb, ne_eqb}
 use Rattle.arrays.specs.Sum.{sum_to}
 
 -- a number of positions 1 to i is at most their sum
@@ -68,7 +68,7 @@ sum_one f g k (suc i) each =
             arith,
             sum_le f g i (λ j low high.
                 omega (arith, rw (ne_eqb k j (λ same. omega arith)) at (each j low (omega arith)))),
-            rw (eq_eqb k (suc i) e) at (each (suc i) (omega arith) (omega arith)),
+            rw (eq-eqb k (suc i) e) at (each (suc i) (omega arith) (omega arith)),
           )
       | no other ↦
           omega (

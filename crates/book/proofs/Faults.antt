@@ -7,7 +7,7 @@ use mathlib.Core.List.{List, [], ◌∷◌}
 use lib.ListN.{length}
 use lib.Dec.{eqb}
 use lib.Seq.{get_or-take}
-use borrow.Author.Tests.{le_leb, lt_leb, le_ltb, eq_eqb, ne_eqb}
+use borrow.Author.Tests.{le-leb, lt-leb, le-ltb, eq-eqb, ne_eqb}
 use Rattle.arrays.specs.Each.{some_below}
 use Rattle.arrays.proofs.Each.{below_same}
 use Rattle.week.specs.declared.record.Batch.{Batch}
@@ -36,7 +36,7 @@ use Rattle.judge.proofs.Fit.{list_fit}
 minutes_decide : (w : Week) → w.count ≤ max_batches → week_fault w ≡ open_fault w.opening w.closing
 unfolding week_fault open_fault
 minutes_decide w few =
-    rw (refused_if_false 3 0 0 (le_ltb max_batches w.count few)) (append_accepted (minutes_faults w.opening w.closing))
+    rw (refused_if_false 3 0 0 (le-ltb max_batches w.count few)) (append_accepted (minutes_faults w.opening w.closing))
 
 week_proper : (w : Week) → Proper (week_fault w)
 unfolding week_fault
@@ -78,7 +78,7 @@ number_proper numbers n b = refused_if_proper 9 0 0 refl _
 -- 9, of number 0
 number_zero : (b : Batch) → b.number ≡ 0 → (numbers : ℕ → ℕ) (n : ℕ) → number_fault numbers n b ≡ refused 9 0 0
 unfolding number_fault
-number_zero b e numbers n = refused_if_true 9 0 0 (rw (eq_eqb b.number 0 e))
+number_zero b e numbers n = refused_if_true 9 0 0 (rw (eq-eqb b.number 0 e))
 
 -- and of another
 number_some : (b : Batch) → (b.number ≡ 0 → ⊥) → (bs : List Batch) →
@@ -128,12 +128,12 @@ module _ (c : ℕ) (bs : List Batch) (b : Batch) where
   pub join_full : max_batches ≤ length bs → join_fault c bs b ≡ refused 20 0 0
   unfolding join_fault
   join_full full =
-      let twenty = refused_if_true 20 0 0 (le_leb max_batches (length bs) full) in
+      let twenty = refused_if_true 20 0 0 (le-leb max_batches (length bs) full) in
       first_of_here _ _ (refuses 20 refl twenty) ∙ twenty
 
   pub join_new : length bs < max_batches → join_fault c bs b ≡ first_of (new_faults c bs b)
   unfolding join_fault
-  join_new room = first_of_later _ _ (number_of_lem (refused_if_false 20 0 0 (lt_leb max_batches (length bs) room)))
+  join_new room = first_of_later _ _ (number_of_lem (refused_if_false 20 0 0 (lt-leb max_batches (length bs) room)))
 
 pub leave_proper : (bs : List Batch) (number : ℕ) → Proper (leave_fault bs number)
 unfolding leave_fault

@@ -8,7 +8,7 @@ use mathlib.Core.List.{List, [], ◌∷◌, ◌++◌}
 use lib.ListN.{length, get_or, take, drop, set, replicate, length-replicate, drop_of_length-le}
 use lib.Seq.{length-take-le, get_or-take, drop-cons}
 use lib.Dec.{leb}
-use borrow.Author.Tests.{leb-true, le_leb, lt_leb}
+use borrow.Author.Tests.{leb-true, le-leb, lt-leb}
 use Rattle.arrays.specs.Made.{padded}
 use Rattle.arrays.proofs.Front.{front_step, front_padded}
 use Rattle.words.specs.declared.numbers.Numbers.{Numbers}
@@ -32,10 +32,10 @@ module _ (values : List ℕ) (n i : ℕ) (long : n ≤ length values) where
 
   -- one that is no byte decides; else those after it do
   pub bytes_broken : i < n → max_byte < get_or values i 0 → are_bytes (drop i (take n values)) ≡ false
-  bytes_broken more large = rw (lt_leb _ _ large) at (bytes_here more)
+  bytes_broken more large = rw (lt-leb _ _ large) at (bytes_here more)
 
   pub bytes_on : i < n → get_or values i 0 ≤ max_byte → are_bytes (drop i (take n values)) ≡ are_bytes (drop (i + 1) (take n values))
-  bytes_on more small = rw (le_leb _ _ small) at (bytes_here more)
+  bytes_on more small = rw (le-leb _ _ small) at (bytes_here more)
 
   pub bytes_over : n ≤ i → are_bytes (drop i (take n values)) ≡ true
   unfolding are_bytes
@@ -50,12 +50,12 @@ module _ (numbers : Numbers) where
 
   pub choice_long : max_kept < numbers.count → is_choice numbers ≡ false
   unfolding is_choice
-  choice_long long = simp (lt_leb _ _ long, and-false)
+  choice_long long = simp (lt-leb _ _ long, and-false)
 
   pub choice_decided : numbers.valid ≡ true → numbers.count ≤ max_kept →
       is_choice numbers ≡ are_bytes (take numbers.count numbers.values)
   unfolding is_choice
-  choice_decided valid short = simp (valid, le_leb _ _ short)
+  choice_decided valid short = simp (valid, le-leb _ _ short)
 
 -- the loop that copies the first n of an array stands at i
 pub record Copying (values : List ℕ) (n i : ℕ) (recipes : List ℕ) : Type 0 where

@@ -4,7 +4,7 @@ use mathlib.Core.Path.{◌≡◌, ◌∙◌}
 use mathlib.Core.Bool.{true, false}
 use mathlib.Core.List.{List}
 use lib.ListN.{length, drop}
-use borrow.Author.Tests.{lt_ltb, le_ltb}
+use borrow.Author.Tests.{lt-ltb, le-ltb}
 use Rattle.words.specs.Line.{max_line}
 use Rattle.words.specs.Word.{words_of}
 use Rattle.words.specs.Contract.{part_of, NextWord}
@@ -21,12 +21,12 @@ module _ (line : List ℕ) where
   module _ (plain : is_comment line ≡ false) where
     pub long_unknown : max_line < length line → command_in line ≡ of_kind kind.Unknown
     unfolding command_in
-    long_unknown long = simp (plain, lt_ltb _ _ long)
+    long_unknown long = simp (plain, lt-ltb _ _ long)
 
     module _ (short : length line ≤ max_line) {start end : ℕ} (word : NextWord line 0 start end) where
       words_decide : command_in line ≡ by_words (words_of line)
       unfolding command_in
-      words_decide = simp (plain, le_ltb _ _ short)
+      words_decide = simp (plain, le-ltb _ _ short)
 
       pub empty_nothing : start ≡ end → command_in line ≡ of_kind kind.Nothing
       unfolding by_words

@@ -8,7 +8,7 @@ use mathlib.Core.List.{List, [], ◌∷◌}
 use lib.ListN.{length, get_or, drop, drop_of_length-le}
 use lib.Seq.{drop-cons}
 use lib.Dec.{eqb}
-use borrow.Author.Tests.{eq_eqb, ne_eqb}
+use borrow.Author.Tests.{eq-eqb, ne_eqb}
 use Rattle.arrays.specs.Example.{same}
 
 -- words of two lengths are not the same
@@ -30,7 +30,7 @@ module _ (a b : List ℕ) (i : ℕ) (size : length a ≡ length b) where
   same_broken more other = rw (ne_eqb _ _ other) at (same_here more)
 
   pub same_on : i < length a → get_or a i 0 ≡ get_or b i 0 → same (drop i a) (drop i b) ≡ same (drop (i + 1) a) (drop (i + 1) b)
-  same_on more e = rw (eq_eqb _ _ e) at (same_here more)
+  same_on more e = rw (eq-eqb _ _ e) at (same_here more)
 
   pub same_over : length a ≤ i → same (drop i a) (drop i b) ≡ true
   unfolding same

@@ -1,4 +1,6 @@
 // The commands of weekdesk, and which of them a line is.
+#![tactic(auto)]
+
 pub mod command;
 mod name;
 mod numbered;

@@ -9,7 +9,7 @@ use mathlib.Core.List.{List, [], ◌∷◌, ◌++◌, append_assoc, append-nil}
 use lib.ListN.{length, take, set, length-append}
 use lib.Seq.{take_all, take-append-le, take-take}
 use lib.Dec.{ltb, leb}
-use borrow.Author.Tests.{lt_ltb, le_ltb, le_leb}
+use borrow.Author.Tests.{lt-ltb, le-ltb, le-leb}
 use Rattle.arrays.specs.Made.{padded}
 use Rattle.arrays.proofs.Places.{padded_set, take_padded}
 use Rattle.week.specs.declared.record.Batch.{Batch}
@@ -30,7 +30,7 @@ count_more n =
       | yes over ↦ let all : counted n ≡ suc max_kept = omega arith in rw all (omega arith)
       | no within ↦
           let here : counted n ≡ n = omega arith in
-          rw (here, le_leb n max_kept (omega arith)) (omega arith)
+          rw (here, le-leb n max_kept (omega arith)) (omega arith)
     ]
 
 store_more : (bs : List Batch) (b : Batch) →
@@ -43,13 +43,13 @@ store_more bs b =
           let here : counted (length bs) ≡ length bs = omega arith in
           rw (
             here,
-            lt_ltb (length bs) max_kept place,
+            lt-ltb (length bs) max_kept place,
             take_all max_kept bs (omega arith),
             take_all max_kept (bs ++ (b ∷ [])) (omega arith),
             padded_set max_kept empty_batch bs (length bs) b refl place,
           )
       | no full ↦
-          rw (le_ltb (counted (length bs)) max_kept (omega arith), take-append-le max_kept bs (b ∷ []) (omega arith))
+          rw (le-ltb (counted (length bs)) max_kept (omega arith), take-append-le max_kept bs (b ∷ []) (omega arith))
     ]
 
 module _ (t c : ℕ) where

@@ -6,7 +6,7 @@ use mathlib.Core.Bool.{Bool, true, false}
 use mathlib.Core.List.{List, [], ◌∷◌}
 use lib.ListN.{take}
 use lib.Dec.{eqb}
-use borrow.Author.Tests.{le_leb}
+use borrow.Author.Tests.{le-leb}
 use Rattle.edf.specs.declared.outcome.Outcome.TheVariants.{Finished}
 use Rattle.edf.specs.Run.{entries, log_of, minutes_before, up_to_last, outcome_of}
 use Rattle.edf.proofs.Logs.{entries-take}
@@ -37,6 +37,6 @@ finished_by n ready minutes t w e j low after got =
     let log = log_of n ready minutes t w in
     let whole : minutes j ≤ entries j log = omega (arith, entries-take j (e - t) log) in (
       t + up_to_last j log,
-      rw (le_leb (minutes j) (entries j log) whole),
+      rw (le-leb (minutes j) (entries j log) whole),
       omega (arith, last_within j (e - t) log (omega (arith, read_left n ready minutes t w j low))),
     )

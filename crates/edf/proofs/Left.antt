@@ -6,7 +6,7 @@ use native.Mathlib.Omega.{arith}
 use mathlib.Core.Path.{◌≡◌, refl, ap, subst, ◌∙◌}
 use mathlib.Core.List.{List}
 use lib.ListN.{get_or, take}
-use borrow.Author.Tests.{eq_eqb, ne_eqb}
+use borrow.Author.Tests.{eq-eqb, ne_eqb}
 use Rattle.edf.specs.Run.{entries, minutes_left, log_of, Reads}
 use Rattle.edf.proofs.Pending.{reads}
 use Rattle.edf.proofs.Logs.{log_to, left_at, read_at, take_log, entry_log, entries_next}
@@ -25,7 +25,7 @@ module _ (n : ℕ) (ready minutes : ℕ → ℕ) (t : ℕ) where
   reads_at d = reads ready (left d) (t + d) n
 
   entries_read : (d j : ℕ) → next d ≡ j → entries j (log (suc d)) ≡ entries j (log d) + 1
-  entries_read d j e = rw (eq_eqb (next d) j e) at (entries_next n ready minutes t d j)
+  entries_read d j e = rw (eq-eqb (next d) j e) at (entries_next n ready minutes t d j)
 
   entries_other : (d j : ℕ) → (next d ≡ j → ⊥) → entries j (log (suc d)) ≡ entries j (log d)
   entries_other d j other = omega (arith, rw (ne_eqb (next d) j other) at (entries_next n ready minutes t d j))

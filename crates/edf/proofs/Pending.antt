@@ -5,7 +5,7 @@ use native.Mathlib.Omega.{arith}
 use mathlib.Core.Path.{◌≡◌, refl, sym, subst, ◌∙◌}
 use mathlib.Core.Bool.{Bool, true, false, cond, ◌&&◌, and-eq-true_iff, false≢true}
 use lib.Dec.{ltb, leb}
-use borrow.Author.Tests.{ltb-true, lt_ltb, leb-true, le_leb}
+use borrow.Author.Tests.{ltb-true, lt-ltb, leb-true, le-leb}
 use Rattle.edf.specs.Run.{first_some, first_pending, Reads}
 
 -- the test of `first_pending`, in numbers
@@ -13,7 +13,7 @@ pending_true : (r l m : ℕ) → (leb r m && ltb 0 l) ≡ true → (r ≤ m) × 
 pending_true r l m h = let both = (and-eq-true_iff (leb r m) (ltb 0 l)).0 h in (leb-true _ _ both.0, ltb-true _ _ both.1)
 
 true_pending : (r l m : ℕ) → r ≤ m → 1 ≤ l → (leb r m && ltb 0 l) ≡ true
-true_pending r l m ready some = (and-eq-true_iff (leb r m) (ltb 0 l)).1 (le_leb r m ready, lt_ltb 0 l some)
+true_pending r l m ready some = (and-eq-true_iff (leb r m) (ltb 0 l)).1 (le-leb r m ready, lt-ltb 0 l some)
 
 -- `Reads` of 0 says that no job is pending: of no jobs
 pub none_pending : (ready left : ℕ → ℕ) (m : ℕ) → Reads ready left m 0 0

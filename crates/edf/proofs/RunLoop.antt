@@ -8,7 +8,7 @@ use mathlib.Core.List.{List, [], ◌∷◌, ◌++◌}
 use lib.ListN.{length, get_or, set, take, length-set}
 use lib.Dec.{eqb}
 use lib.Seq.{take_all, take-suc-set}
-use borrow.Author.Tests.{eq_eqb, ne_eqb}
+use borrow.Author.Tests.{eq-eqb, ne_eqb}
 use Rattle.arrays.specs.Position.{at_position}
 use Rattle.arrays.proofs.Stores.{set_each}
 use Rattle.jobs.specs.Model.{max_jobs}
@@ -31,7 +31,7 @@ module _ (k : ℕ) (left : List ℕ) where
           | zero ↦ omega arith
           | suc i ↦
               set_each 0 left (k - 1) rest (omega arith) (λ i x. x ≡ get_or left i 0 - cond (eqb k (suc i)) 1 0)
-              (rw (eq_eqb k (suc (k - 1)) (omega arith)))
+              (rw (eq-eqb k (suc (k - 1)) (omega arith)))
               (λ i n. rw (ne_eqb k (suc i) (λ e. n (omega arith))) (omega arith)) i
         ];
       }

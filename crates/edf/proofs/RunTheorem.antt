@@ -4,7 +4,7 @@ use Prim.Native.Nat.{ℕ, zero, suc, ◌+◌, ◌-◌, ◌≤◌, ◌<◌}
 use native.Mathlib.Decide.{dec_le}
 use native.Mathlib.Omega.{arith}
 use mathlib.Core.Path.{◌≡◌, ap}
-use borrow.Author.Tests.{le_leb}
+use borrow.Author.Tests.{le-leb}
 use Rattle.arrays.specs.Sum.{sum_to}
 use Rattle.arrays.proofs.Sums.{sum_part, sum_le, sum_less}
 use Rattle.edf.specs.Run.{entries, log_of, minutes_before}
@@ -36,7 +36,7 @@ module _
           fits (t + d) (omega arith),
           sum_le (left d) (needed_from ready minutes (t + d)) i (λ j low high.
               elim (dec_le (t + d) (ready j)) [
-                | yes later ↦ rw (le_leb (t + d) (ready j) later) (omega (arith, read_left n ready minutes t d j low))
+                | yes later ↦ rw (le-leb (t + d) (ready j) later) (omega (arith, read_left n ready minutes t d j low))
                 | no earlier ↦ omega (arith, done j low high (omega arith))
               ]),
         )

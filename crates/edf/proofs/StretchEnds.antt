@@ -7,7 +7,7 @@ use mathlib.Core.Bool.{Bool, true, false, cond, and-eq-true_iff}
 use mathlib.Core.List.{List}
 use lib.ListN.{get_or}
 use lib.Dec.{leb}
-use borrow.Author.Tests.{le_leb, lt_leb}
+use borrow.Author.Tests.{le-leb, lt-leb}
 use Rattle.arrays.specs.Position.{at_position, backward}
 use Rattle.arrays.specs.Sum.{sum_to}
 use Rattle.jobs.specs.declared.model.Version.{Version}
@@ -27,8 +27,8 @@ module _ (j : Job) (v : Version) (x : ℕ) where
       next_bound j v x - m + cond (leb m j.ready) l 0 ≤ (stretch_of j v x).end - m
   end_room fit m l few =
       elim (dec_le m j.ready) [
-        | yes later ↦ rw (le_leb m j.ready later) (by_read later v.read refl)
-        | no earlier ↦ rw (lt_leb m j.ready (omega arith)) (omega (arith, end_in j v x))
+        | yes later ↦ rw (le-leb m j.ready later) (by_read later v.read refl)
+        | no earlier ↦ rw (lt-leb m j.ready (omega arith)) (omega (arith, end_in j v x))
       ]
     where
       by_read : m ≤ j.ready → (q : Bool) → v.read ≡ q → next_bound j v x - m + l ≤ (stretch_of j v x).end - m

@@ -1,5 +1,7 @@
 // A program of the gate: what stands beyond a count is never looked at. Case W, with rubbish behind its batches and behind the recipes of
 // each, is answered as case W is.
+#![tactic(auto)]
+
 ghost use Rattle.io.specs.Counts.{IsPrefixLen};
 
 use answer::operation::{AnswerText, check_text, choose_text, run_text};

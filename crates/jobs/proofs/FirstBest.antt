@@ -7,7 +7,7 @@ use mathlib.Core.List.{List, [], ◌∷◌, ◌++◌, map}
 use mathlib.Core.Option
 use mathlib.Core.Option.{Option, none, some}
 use lib.Dec.{ltb}
-use borrow.Author.Tests.{ltb-true, ltb-false, lt_ltb, le_ltb}
+use borrow.Author.Tests.{ltb-true, ltb-false, lt-ltb, le-ltb}
 use Rattle.jobs.specs.Best.{greater, passing, first_best}
 
 module _ (v : List ℕ → ℕ) where
@@ -20,13 +20,13 @@ module _ (v : List ℕ → ℕ) where
   assoc_some a b c true true hp hq =
       let ab : v a < v b = ltb-true _ _ hp in
       let bc : v b < v c = ltb-true _ _ hq in
-      rw (hq, lt_ltb (v a) (v c) (omega arith))
+      rw (hq, lt-ltb (v a) (v c) (omega arith))
   assoc_some a b c true false hp hq = rw (hp, hq)
   assoc_some a b c false true hp hq = refl
   assoc_some a b c false false hp hq =
       let ba : v b ≤ v a = ltb-false _ _ hp in
       let cb : v c ≤ v b = ltb-false _ _ hq in
-      rw (hp, le_ltb (v a) (v c) (omega arith))
+      rw (hp, le-ltb (v a) (v c) (omega arith))
 
   -- keeping the first unless the second is greater is associative
   greater_assoc : (a b c : Option (List ℕ)) → greater v (greater v a b) c ≡ greater v a (greater v b c)

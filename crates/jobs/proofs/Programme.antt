@@ -7,7 +7,7 @@ use mathlib.Core.List.{List, ◌∷◌, map}
 use mathlib.Core.Option
 use mathlib.Core.Option.{Option, none}
 use lib.Dec.{ltb}
-use borrow.Author.Tests.{ltb-true, ltb-false, lt_ltb, le_ltb}
+use borrow.Author.Tests.{ltb-true, ltb-false, lt-ltb, le-ltb}
 use Rattle.jobs.specs.declared.model.Job.{Job}
 use Rattle.jobs.specs.Model.{version_of}
 use Rattle.jobs.specs.Rule.{fits, next_bound, meets}
@@ -42,8 +42,8 @@ among_same v f g same (suc n) = rw (among_same v f g same n, same (suc n))
 
 -- a worth added to both sides of a test leaves it
 ltb_add : (w a b : ℕ) (q : Bool) → ltb a b ≡ q → ltb (w + a) (w + b) ≡ q
-ltb_add w a b true h = let l : a < b = ltb-true _ _ h in lt_ltb (w + a) (w + b) (omega arith)
-ltb_add w a b false h = let l : b ≤ a = ltb-false _ _ h in le_ltb (w + a) (w + b) (omega arith)
+ltb_add w a b true h = let l : a < b = ltb-true _ _ h in lt-ltb (w + a) (w + b) (omega arith)
+ltb_add w a b false h = let l : b ≤ a = ltb-false _ _ h in le-ltb (w + a) (w + b) (omega arith)
 
 module _ (j : Job) (js : List Job) (x : ℕ) where
   -- one version of the last job

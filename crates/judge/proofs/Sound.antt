@@ -6,7 +6,7 @@ use mathlib.Core.Logic.{◌↔◌}
 use mathlib.Core.Bool.{not}
 use mathlib.Core.List.{List}
 use lib.ListN.{length, get_or}
-use borrow.Author.Tests.{eqb-true, eq_eqb, not-false}
+use borrow.Author.Tests.{eqb-true, eq-eqb, not-false}
 use Rattle.arrays.specs.Each.{OneOfEach}
 use Rattle.arrays.proofs.Tests.{lt_fails, zero_fails, or_fails}
 use Rattle.week.specs.declared.record.Week.{Week}
@@ -55,7 +55,7 @@ choice_proper w choice = first_of_proper _
 pub choice_passes : (w : Week) (choice : List ℕ) → WellChosen w choice ↔ Named w choice
 unfolding choice_fault
 choice_passes w choice =
-    let size = if_passes 13 0 0 refl (λ e. eqb-true (length choice) w.count (not-false _ e), λ e. ap not (eq_eqb _ _ e)) in
+    let size = if_passes 13 0 0 refl (λ e. eqb-true (length choice) w.count (not-false _ e), λ e. ap not (eq-eqb _ _ e)) in
     Iff.trans (proper_passes _ (choice_proper w choice))
     (Iff.trans (first_of_passes _) (
       λ (whole, (names, _)).

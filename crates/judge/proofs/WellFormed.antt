@@ -5,7 +5,7 @@ use mathlib.Core.Path.{◌≡◌, refl, sym, ap, ◌∙◌}
 use mathlib.Core.Logic.Iff
 use mathlib.Core.Logic.{◌↔◌}
 use mathlib.Core.Bool.{true, not}
-use borrow.Author.Tests.{ltb-true, lt_ltb, eqb-true, eq_eqb, not-false}
+use borrow.Author.Tests.{ltb-true, lt-ltb, eqb-true, eq-eqb, not-false}
 use Rattle.arrays.proofs.Each.{none_below}
 use Rattle.arrays.proofs.Tests.{lt_fails, le_fails, none_fails, zero_fails, same_fails, or_fails, and_fails}
 use Rattle.week.specs.declared.record.Batch.{Batch}
@@ -63,7 +63,7 @@ module _ (b : Batch) where
   unfolding worth_fault
   worth_passes k =
       if_passes 8 0 (suc k) refl
-      (and_fails _ _ (eqb-true (recipe_at b k).cost 0, eq_eqb (recipe_at b k).cost 0) (none_fails (recipe_at b k).worth))
+      (and_fails _ _ (eqb-true (recipe_at b k).cost 0, eq-eqb (recipe_at b k).cost 0) (none_fails (recipe_at b k).worth))
 
 -- together
 pub own_passes : (c : ℕ) (b : Batch) → Passes (first_of (own_faults c b)) ↔ Fair c b
@@ -99,7 +99,7 @@ number_passes numbers n b =
 -- 10, of batch b, of index i, after batch a
 order_passes : (t i : ℕ) (a b : Batch) → Passes (order_fault t i a b) ↔ (0 < i → before t a b ≡ true)
 unfolding order_fault
-order_passes t i a b = if_passes 10 0 0 refl (and_fails _ _ (ltb-true 0 i, lt_ltb 0 i) (not-false _, ap not))
+order_passes t i a b = if_passes 10 0 0 refl (and_fails _ _ (ltb-true 0 i, lt-ltb 0 i) (not-false _, ap not))
 
 -- what 4 to 10 ask of the batch of index i
 record OrderlyAt (w : Week) (i : ℕ) : Type 0 where

@@ -7,7 +7,7 @@ use mathlib.Core.List.{List, [], ◌∷◌, ◌++◌, append_assoc}
 use lib.ListN.{length, get_or, drop, replicate, replicate-append-replicate}
 use lib.Seq.{drop-cons, drop-length}
 use lib.Dec.{eqb}
-use borrow.Author.Tests.{eq_eqb, ne_eqb}
+use borrow.Author.Tests.{eq-eqb, ne_eqb}
 use Rattle.arrays.proofs.Cases.{cond_both}
 use Rattle.lent.specs.Shown.{Run, run_of, joined, runs_of, Other}
 use Rattle.lent.specs.Contract.{RunEnd}
@@ -31,7 +31,7 @@ unfolding runs_of joined
 first_run v zero rest some other = absurd (omega arith)
 first_run v (suc zero) rest some other = own_run v (runs_of rest) other
 first_run v (suc (suc n)) rest some other =
-    ap (joined v) (first_run v (suc n) rest (omega arith) other) ∙ rw (eq_eqb v v refl)
+    ap (joined v) (first_run v (suc n) rest (omega arith) other) ∙ rw (eq-eqb v v refl)
 
 -- a search for the end of a run: the bytes from `start` up to i are of one value
 pub record Alike (bytes : List ℕ) (start i : ℕ) : Type 0 where

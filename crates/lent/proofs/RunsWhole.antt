@@ -5,7 +5,7 @@ use native.Mathlib.Omega.{arith}
 use mathlib.Core.Path.{◌≡◌, refl, sym, ap, ◌∙◌}
 use mathlib.Core.List.{List, [], ◌∷◌, map, flatten}
 use lib.Dec.{eqb}
-use borrow.Author.Tests.{eq_eqb, ne_eqb}
+use borrow.Author.Tests.{eq-eqb, ne_eqb}
 use Rattle.arrays.specs.Each.{All}
 use Rattle.arrays.proofs.Cases.{cond_both}
 use Rattle.lent.specs.Shown.{Run, joined, runs_of, spread, Apart, AreRuns}
@@ -18,7 +18,7 @@ module _ (b : ℕ) where
   joined_whole [] = refl
   joined_whole (r ∷ runs) =
       elim (ℕ_discrete b r.value) [
-        | yes e ↦ rw (eq_eqb b r.value e, e)
+        | yes e ↦ rw (eq-eqb b r.value e, e)
         | no other ↦ rw (ne_eqb b r.value other)
       ]
 
@@ -33,7 +33,7 @@ module _ (b : ℕ) where
   joined_apart [] apart = (tt, tt)
   joined_apart (r ∷ runs) apart =
       elim (ℕ_discrete b r.value) [
-        | yes e ↦ rw (eq_eqb b r.value e, e) apart
+        | yes e ↦ rw (eq-eqb b r.value e, e) apart
         | no other ↦ rw (ne_eqb b r.value other) (other, apart)
       ]
 

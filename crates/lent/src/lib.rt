@@ -1,4 +1,6 @@
 // Memory that is lent to an operation, a picks table or a log: filled with one value before, and shown after.
+#![tactic(auto)]
+
 pub mod fill;
 pub mod shown;
 

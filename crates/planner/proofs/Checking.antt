@@ -4,7 +4,7 @@ use native.Mathlib.Omega.{arith}
 use mathlib.Core.Path.{◌≡◌, refl, sym, ap, ◌∙◌}
 use mathlib.Core.Bool.{not}
 use mathlib.Core.List.{List, [], ◌∷◌}
-use borrow.Author.Tests.{eq_eqb, ne_eqb}
+use borrow.Author.Tests.{eq-eqb, ne_eqb}
 use Rattle.jobs.specs.declared.rule.Stretched.{Stretched}
 use Rattle.jobs.specs.Rule.{failing}
 use Rattle.jobs.specs.Choice.{total}
@@ -48,7 +48,7 @@ module _ (w : Week) (choice : List ℕ) where
 
   pub rule_met : failed ≡ 0 → rule_fault w choice ≡ accepted
   unfolding rule_fault
-  rule_met z = refused_if_false 15 failed 0 (ap not (eq_eqb failed 0 z))
+  rule_met z = refused_if_false 15 failed 0 (ap not (eq-eqb failed 0 z))
 
   pub rule_broken : (failed ≡ 0 → ⊥) → rule_fault w choice ≡ refused 15 failed 0
   unfolding rule_fault

@@ -8,7 +8,7 @@ use mathlib.Core.Logic.{◌↔◌}
 use mathlib.Core.Bool.{Bool, true, false, cond, not, false≢true}
 use mathlib.Core.List.{List}
 use lib.Dec.{leb, eqb}
-use borrow.Author.Tests.{leb-true, le_leb, eqb-true}
+use borrow.Author.Tests.{leb-true, le-leb, eqb-true}
 use Rattle.arrays.specs.Position.{at_position, backward}
 use Rattle.arrays.proofs.Places.{length_backward}
 use Rattle.arrays.proofs.Tests.{zero_fails}
@@ -32,7 +32,7 @@ asks_either : (ready m end x : ℕ) (q : Bool) → eqb m 0 ≡ q →
     (cond (not q) (leb (ready + m) end) true ≡ true)
     ↔ (1 ≤ m → ready + m ≤ (cond {A = Stretch} (not q) (record { start = end - m; end = end }) (record { start = x; end = x })).end)
 asks_either ready m end x true aside = (λ h some. absurd (omega (arith, eqb-true m 0 aside)), λ h. refl)
-asks_either ready m end x false read = (λ h some. leb-true _ _ h, λ h. le_leb _ _ (h ((zero_fails m).0 read)))
+asks_either ready m end x false read = (λ h some. leb-true _ _ h, λ h. le-leb _ _ (h ((zero_fails m).0 read)))
 
 module _ (w : Week) (sound : Sound w) {choice : List ℕ} (named : Named w choice) where
   -- the job and the version at position i

@@ -5,7 +5,7 @@ use mathlib.Core.Path.{◌≡◌, refl, sym, ap, ap₂, ◌∙◌}
 use mathlib.Core.Bool.{true, false}
 use mathlib.Core.List.{List, [], ◌∷◌, ◌++◌, flatten}
 use lib.ListN.{length, get_or, length-append, get_or-append}
-use borrow.Author.Tests.{eq_eqb}
+use borrow.Author.Tests.{eq-eqb}
 use Rattle.arrays.specs.Bits.{max16}
 use Rattle.arrays.specs.Made.{tabulate}
 use Rattle.arrays.specs.Text.{line_feed}
@@ -162,7 +162,7 @@ module _ (b : Batch) where
           bytes_line batch_bytes small,
           byte_back batch_bytes (line_feed ∷ []) small 0 (omega (arith, size)),
           count_back,
-          eq_eqb (length (fed batch_bytes)) (length_of (8 + 4 * b.count)) long,
+          eq-eqb (length (fed batch_bytes)) (length_of (8 + 4 * b.count)) long,
         )
         (refl, refl, refl)
 

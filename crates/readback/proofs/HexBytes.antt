@@ -8,7 +8,7 @@ use mathlib.Core.Bool.{true}
 use mathlib.Core.List.{List, [], ◌∷◌, ◌++◌}
 use lib.ListN.{length, get_or}
 use lib.Dec.{ltb}
-use borrow.Author.Tests.{lt_ltb, le_ltb, le_leb, lt_leb, ne_eqb}
+use borrow.Author.Tests.{lt-ltb, le-ltb, le-leb, lt-leb, ne_eqb}
 use Rattle.arrays.specs.Bits.{max16}
 use Rattle.arrays.specs.Each.{All}
 use Rattle.arrays.specs.Text.{line_feed}
@@ -24,14 +24,14 @@ unfolding hex_digit is_digit digit_of
 digit_back n below =
     elim (dec_lt n 10) [
       | yes low ↦
-          rw (lt_ltb n 10 low, le_leb 48 (48 + n) (omega arith), le_leb (48 + n) 57 (omega arith)) (refl, omega arith)
+          rw (lt-ltb n 10 low, le-leb 48 (48 + n) (omega arith), le-leb (48 + n) 57 (omega arith)) (refl, omega arith)
       | no high ↦
           rw (
-            le_ltb n 10 (omega arith),
-            le_leb 48 (65 + (n - 10)) (omega arith),
-            lt_leb (65 + (n - 10)) 57 (omega arith),
-            le_leb 65 (65 + (n - 10)) (omega arith),
-            le_leb (65 + (n - 10)) 70 (omega arith),
+            le-ltb n 10 (omega arith),
+            le-leb 48 (65 + (n - 10)) (omega arith),
+            lt-leb (65 + (n - 10)) 57 (omega arith),
+            le-leb 65 (65 + (n - 10)) (omega arith),
+            le-leb (65 + (n - 10)) 70 (omega arith),
           )
           (refl, omega arith)
     ]

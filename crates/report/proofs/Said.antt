@@ -5,7 +5,7 @@ use mathlib.Core.Path.{◌≡◌, refl, sym, ap, ◌∙◌}
 use mathlib.Core.Bool.{true}
 use mathlib.Core.List.{List, [], ◌∷◌}
 use lib.Seq.{get_or-take}
-use borrow.Author.Tests.{eq_eqb}
+use borrow.Author.Tests.{eq-eqb}
 use Rattle.arrays.specs.Position.{at_position}
 use Rattle.jobs.specs.Rule.{meets}
 use Rattle.jobs.specs.Stretches.{no_stretch, stretch_at}
@@ -85,7 +85,7 @@ module _
         ∙ ap (λ (log : List ℕ). outcome_said w choice log i) (take_week w choice []))
 
     aside_said : (i : ℕ) → chosen_minutes w choice i ≡ 0 → outcome_said w choice (week_log w choice) i ≡ 0 ∷ 0 ∷ []
-    aside_said i none = rw (eq_eqb (chosen_minutes w choice i) 0 none)
+    aside_said i none = rw (eq-eqb (chosen_minutes w choice i) 0 none)
 
     by_stretch : (i : ℕ) → 1 ≤ i → i ≤ w.count → 1 ≤ chosen_minutes w choice i →
         (f : ℕ)

@@ -1,4 +1,6 @@
 // What the desk's program writes for a sheet: its plan, or the refusal, as text.
+#![tactic(auto)]
+
 mod line;
 mod plan;
 

@@ -6,7 +6,7 @@ use mathlib.Core.Logic.{◌⊎◌, inl, inr, ⊎_elim}
 use mathlib.Core.Bool.{Bool, true, false, cond, ◌&&◌, true≢false}
 use mathlib.Core.List.{List}
 use lib.ListN.{length}
-use borrow.Author.Tests.{le_leb, lt_leb, lt_ltb, le_ltb}
+use borrow.Author.Tests.{le-leb, lt-leb, lt-ltb, le-ltb}
 use Rattle.jobs.specs.declared.model.Version.{Version}
 use Rattle.jobs.specs.declared.model.Job.{Job}
 use Rattle.jobs.specs.Model.{minutes_of}
@@ -45,13 +45,13 @@ module _ (v : Version) (k first e : ℕ) (scores : List ℕ) where
   pub due_passes : v.read ≡ true → first ≤ e → e < length scores →
       due_offer v k first e scores ≡ shifted scores v.cost (word_of v.worth k) e
   unfolding due_offer
-  due_passes read l u = all_pass _ v.read _ _ read (le_leb first e l) (lt_ltb e (length scores) u)
+  due_passes read l u = all_pass _ v.read _ _ read (le-leb first e l) (lt-ltb e (length scores) u)
 
   pub due_fails : (v.read ≡ false) ⊎ ((e < first) ⊎ (length scores ≤ e)) → due_offer v k first e scores ≡ 0
   unfolding due_offer
   due_fails h =
       one_fails _ v.read _ _
-      (⊎_elim inl (λ i. inr (⊎_elim (λ l. inl (lt_leb first e l)) (λ u. inr (le_ltb e (length scores) u)) i)) h)
+      (⊎_elim inl (λ i. inr (⊎_elim (λ l. inl (lt-leb first e l)) (λ u. inr (le-ltb e (length scores) u)) i)) h)
 
 -- the first entry of a version, by its cases; s is where it can start at the earliest
 module _ (j : Job) (v : Version) (t f w : ℕ) where
@@ -62,8 +62,8 @@ module _ (j : Job) (v : Version) (t f w : ℕ) where
   module _ (read : v.read ≡ true) {s : ℕ} (start : s ≡ max (j.ready - t) f) where
     pub first_early : t + (s + v.cost) ≤ j.due → first_offer j v t f w ≡ s + v.cost
     unfolding first_offer
-    first_early early = rw (start, read, le_leb (t + (max (j.ready - t) f + v.cost)) j.due (omega arith))
+    first_early early = rw (start, read, le-leb (t + (max (j.ready - t) f + v.cost)) j.due (omega arith))
 
     pub first_late : j.due < t + (s + v.cost) → first_offer j v t f w ≡ w
     unfolding first_offer
-    first_late late = rw (read, lt_leb (t + (max (j.ready - t) f + v.cost)) j.due (omega arith))
+    first_late late = rw (read, lt-leb (t + (max (j.ready - t) f + v.cost)) j.due (omega arith))

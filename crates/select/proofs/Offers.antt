@@ -8,7 +8,7 @@ use mathlib.Core.Logic.{◌⊎◌, inl, inr, ⊎_elim}
 use mathlib.Core.Bool.{Bool, true, false, cond}
 use mathlib.Core.List.{List}
 use lib.ListN.{length, get_or}
-use borrow.Author.Tests.{le_leb, ne_eqb}
+use borrow.Author.Tests.{le-leb, ne_eqb}
 use Rattle.arrays.proofs.Cases.{cond_both}
 use Rattle.arrays.proofs.Patches.{patched_same, patched_widen}
 use Rattle.jobs.specs.declared.model.Version.{Version}
@@ -84,7 +84,7 @@ module _ (j : Job) (k t : ℕ) (scores : List ℕ) {v : Version} (is : v ≡ ver
           offered j k t scores m ≡ get_or scores (end_of j (t + m) - v.cost - t) 0 + word
       unfolding offered_at fits
       end_some m inside early =
-          rw (offered_at_lem m, bound_read j v (t + m) read, read, le_leb (j.ready + v.cost) (end_of j (t + m)) (omega arith))
+          rw (offered_at_lem m, bound_read j v (t + m) read, read, le-leb (j.ready + v.cost) (end_of j (t + m)) (omega arith))
           (raised_some (end_of j (t + m) - v.cost - t) (omega arith) (omega arith))
 
       -- its first entry is the earliest end, unless the due minute is before that

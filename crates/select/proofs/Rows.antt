@@ -7,7 +7,7 @@ use mathlib.Core.Bool.{cond}
 use mathlib.Core.List.{List, ◌∷◌}
 use lib.ListN.{length, get_or, replicate, length-replicate}
 use lib.Dec.{ltb}
-use borrow.Author.Tests.{lt_ltb, le_ltb}
+use borrow.Author.Tests.{lt-ltb, le-ltb}
 use Rattle.arrays.proofs.Places.{replicate_low}
 use Rattle.jobs.specs.declared.model.Job.{Job}
 use Rattle.jobs.specs.Model.{max_versions}
@@ -41,11 +41,11 @@ word_at e words level m = cond (ltb m e) (get_or words m 0) (max (get_or words m
 module _ (e : ℕ) (words : List ℕ) (level m : ℕ) where
   pub at_early : m < e → word_at e words level m ≡ get_or words m 0
   unfolding word_at
-  at_early l = rw (lt_ltb m e l)
+  at_early l = rw (lt-ltb m e l)
 
   pub at_late : e ≤ m → word_at e words level m ≡ max (get_or words m 0) level
   unfolding word_at
-  at_late l = rw (le_ltb m e l)
+  at_late l = rw (le-ltb m e l)
 
 -- after k versions; the words start at entry `next`
 pub record Row (j : Job) (t e : ℕ) (scores words : List ℕ) (level next k : ℕ) : Type 0 where

@@ -5,19 +5,19 @@ use native.Mathlib.Omega.{arith}
 use mathlib.Core.Path.{◌≡◌}
 use mathlib.Core.Bool.{Bool, true, false, cond, ◌&&◌, ◌||◌, and-false}
 use lib.Dec.{leb}
-use borrow.Author.Tests.{le_leb, lt_leb}
+use borrow.Author.Tests.{le-leb, lt-leb}
 use Rattle.sheet.specs.Hex.{is_decimal, is_letter, is_digit, digit_of}
 
 -- a byte stands in a range, before it or after it
 module _ (low high b : ℕ) where
   inside : low ≤ b → b ≤ high → (leb low b && leb b high) ≡ true
-  inside l h = simp (le_leb low b l, le_leb b high h)
+  inside l h = simp (le-leb low b l, le-leb b high h)
 
   before : b < low → (leb low b && leb b high) ≡ false
-  before l = simp (lt_leb low b l)
+  before l = simp (lt-leb low b l)
 
   after : high < b → (leb low b && leb b high) ≡ false
-  after h = simp (lt_leb b high h, and-false)
+  after h = simp (lt-leb b high h, and-false)
 
 pub record Says (b : ℕ) (is : Bool) (number : ℕ) : Type 0 where
   pub digit : is_digit b ≡ is

@@ -9,7 +9,7 @@ use mathlib.Core.List.{List}
 use lib.ListN.{length, get_or, drop, length-drop, drop_of_length-le}
 use lib.Seq.{drop-cons}
 use lib.Dec.{eqb}
-use borrow.Author.Tests.{eq_eqb, ne_eqb}
+use borrow.Author.Tests.{eq-eqb, ne_eqb}
 use Rattle.arrays.specs.Text.{line_feed}
 use Rattle.sheet.specs.Hex.{is_digit}
 use Rattle.sheet.specs.Line.{hex_line}
@@ -25,7 +25,7 @@ module _ (line : List ℕ) (i : ℕ) where
     nothing_left =
         let left = length (drop (i + 1) line) in
         elim (ℕ_discrete (i + 1) (length line)) [
-          | yes e ↦ eq_eqb left 0 (omega (arith, length-drop (i + 1) line)) ∙ sym (eq_eqb _ _ e)
+          | yes e ↦ eq-eqb left 0 (omega (arith, length-drop (i + 1) line)) ∙ sym (eq-eqb _ _ e)
           | no n ↦ ne_eqb left 0 (λ z. n (omega (arith, length-drop (i + 1) line))) ∙ sym (ne_eqb _ _ n)
         ]
 

@@ -7,14 +7,14 @@ use mathlib.Core.Logic.{◌↔◌}
 use mathlib.Core.List.{List, [], ◌∷◌}
 use lib.ListN.{length, get_or, take, drop, length-drop}
 use lib.Seq.{take_all, drop-drop, drop-length, get_or-drop}
-use borrow.Author.Tests.{eq_eqb, ne_eqb}
+use borrow.Author.Tests.{eq-eqb, ne_eqb}
 use Rattle.arrays.specs.Text.{line_feed}
 use Rattle.sheet.specs.Line.{joined, lines_of}
 use Rattle.sheet.specs.Contract.{LineEnd}
 
 -- a line feed is the last byte of its line
 pub lines_feed : (b : ℕ) (bs : List ℕ) → b ≡ line_feed → lines_of (b ∷ bs) ≡ (b ∷ []) ∷ lines_of bs
-lines_feed b bs e = simp (eq_eqb _ _ e)
+lines_feed b bs e = simp (eq-eqb _ _ e)
 
 -- any other stands before what is left of its line
 pub lines_other : (b : ℕ) (bs : List ℕ) → (b ≡ line_feed → ⊥) → lines_of (b ∷ bs) ≡ joined b (lines_of bs)

@@ -4,7 +4,7 @@ use native.Mathlib.Numerals.{add-one}
 use mathlib.Core.Path.{◌≡◌, ◌∙◌}
 use mathlib.Core.List.{List}
 use lib.ListN.{length}
-use borrow.Author.Tests.{eq_eqb, ne_eqb}
+use borrow.Author.Tests.{eq-eqb, ne_eqb}
 use Rattle.week.specs.declared.refusal.Refusal.{Refusal}
 use Rattle.week.specs.Refusal.{refused, refused_if, or_else, first_of, first}
 use Rattle.week.proofs.First.{search_after}
@@ -20,7 +20,7 @@ module _ (s : List ℕ) where
   -- an empty sheet has no first line
   pub fault_empty : length s ≡ 0 → lines_fault (lines_of s) ≡ refused 17 1 0
   unfolding lines_fault first_of or_else refused_if
-  fault_empty z = rw (eq_eqb _ _ ((lines_none s).1 z))
+  fault_empty z = rw (eq-eqb _ _ ((lines_none s).1 z))
 
   -- of any other the lines decide, from the first on
   pub fault_start : (length s ≡ 0 → ⊥) → first (line_fault (lines_of s)) 0 (length (lines_of s) - 0) ≡ lines_fault (lines_of s)

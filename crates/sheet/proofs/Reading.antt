@@ -3,7 +3,7 @@ use Prim.Native.Nat.{ℕ, ◌≤◌, ◌<◌}
 use mathlib.Core.Path.{◌≡◌, refl, sym, ap, ◌∙◌}
 use mathlib.Core.List.{List}
 use lib.ListN.{length}
-use borrow.Author.Tests.{lt_ltb, le_ltb}
+use borrow.Author.Tests.{lt-ltb, le-ltb}
 use Rattle.week.specs.declared.record.Week.{Week}
 use Rattle.week.specs.declared.refusal.Refusal.{Refusal}
 use Rattle.week.specs.Refusal.{accepted, refused}
@@ -33,14 +33,14 @@ module _ (sheet : List ℕ) where
   pub large_refused : max_bytes < length sheet → {r : Refusal} → r ≡ refused 18 0 0 → read_answer sheet ≡ refused_reading r
   unfolding read_fault size_fault
   large_refused large e =
-      let fault = refused_if_true 18 0 0 (lt_ltb _ _ large) in
+      let fault = refused_if_true 18 0 0 (lt-ltb _ _ large) in
       read_answers.refused (first_of_here _ _ (refuses 18 refl fault) ∙ fault ∙ sym e) (refuses 18 refl e)
 
   -- it is not: its lines decide
   module _ (small : length sheet ≤ max_bytes) where
     size_passed : (size_fault sheet).number ≡ 0
     unfolding size_fault
-    size_passed = number_of_lem (refused_if_false 18 0 0 (le_ltb _ _ small))
+    size_passed = number_of_lem (refused_if_false 18 0 0 (le-ltb _ _ small))
 
     pub lines_refused : {r : Refusal} → r ≡ lines_fault (lines_of sheet) → (r.number ≡ 0 → ⊥) → read_answer sheet ≡ refused_reading r
     unfolding read_fault

@@ -1,4 +1,6 @@
 // The sheet: lines of hexadecimal, the frames that they are, and the list that they hold.
+#![tactic(auto)]
+
 mod fault;
 mod frame;
 mod hex;

@@ -8,7 +8,7 @@ use mathlib.Core.Bool.{Bool, true, false, cond}
 use mathlib.Core.List.{List, [], ◌∷◌, ◌++◌}
 use lib.ListN.{length, length-append}
 use lib.Dec.{ltb}
-use borrow.Author.Tests.{lt_ltb, le_ltb, ltb-false}
+use borrow.Author.Tests.{lt-ltb, le-ltb, ltb-false}
 use Rattle.io.specs.Digits.{hex_digit_ascii, last_digits, IsDigitCount}
 use Rattle.text.specs.Decimal.{digit, spelt, decimal}
 
@@ -38,13 +38,13 @@ spelt_enough (suc a) (suc b) n below other =
 -- one digit
 pub decimal_one : (n : ℕ) → n < 10 → decimal n ≡ last n
 unfolding decimal spelt
-decimal_one n one = rw (lt_ltb n 10 one)
+decimal_one n one = rw (lt-ltb n 10 one)
 
 -- one digit more
 pub decimal_more : (n : ℕ) → 10 ≤ n → decimal n ≡ decimal (n / 10) ++ last n
 unfolding decimal spelt
 decimal_more n more =
-    rw (le_ltb n 10 more) (ap (λ (l : List ℕ). l ++ last n) (spelt_enough n (suc (n / 10)) (n / 10) (fewer n more) (omega arith)))
+    rw (le-ltb n 10 more) (ap (λ (l : List ℕ). l ++ last n) (spelt_enough n (suc (n / 10)) (n / 10) (fewer n more) (omega arith)))
 
 -- a number below 10 ^ (k + 1) has at most k + 1 digits
 tenth_below : (k n : ℕ) → n < 10 ^ suc k → n / 10 < 10 ^ k
@@ -62,7 +62,7 @@ decimal_short (suc k) n below =
 
 -- `io::decimal` writes a digit as it is written here
 glyph_digit : (n : ℕ) → hex_digit_ascii (n % 10) ≡ digit (n % 10)
-glyph_digit n = rw (lt_ltb (n % 10) 10 (mod-lt n (omega arith)))
+glyph_digit n = rw (lt-ltb (n % 10) 10 (mod-lt n (omega arith)))
 
 -- and the fewest that hold the number
 pub fewest_decimal : (k n : ℕ) → IsDigitCount 10 1 n k → last_digits 10 k n ≡ decimal n

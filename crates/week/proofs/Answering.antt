@@ -3,7 +3,7 @@
 use native.Mathlib.Decide.{ℕ_discrete}
 use mathlib.Core.Path.{◌≡◌, refl, ap, sym, ◌∙◌}
 use lib.Dec.{eqb}
-use borrow.Author.Tests.{eqb-true, eq_eqb, ne_eqb}
+use borrow.Author.Tests.{eqb-true, eq-eqb, ne_eqb}
 use Rattle.arrays.proofs.Cases.{cond_cases}
 use Rattle.week.specs.declared.refusal.Refusal.{Refusal}
 use Rattle.week.specs.Refusal.{accepted, unless_refused, answer_by}
@@ -12,7 +12,7 @@ use Rattle.week.proofs.First.{Proper, refuses_too}
 module _ {A : Type 0} (fault : Refusal) (passed other : A) where
   pub unless_passed : fault.number ≡ 0 → unless_refused fault passed other ≡ passed
   unfolding unless_refused
-  unless_passed z = rw (eq_eqb fault.number 0 z)
+  unless_passed z = rw (eq-eqb fault.number 0 z)
 
   pub unless_refused_lem : (fault.number ≡ 0 → ⊥) → unless_refused fault passed other ≡ other
   unfolding unless_refused

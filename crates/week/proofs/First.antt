@@ -9,7 +9,7 @@ use mathlib.Core.Path.{◌≡◌, refl, ap, sym, ◌∙◌}
 use mathlib.Core.Bool.{Bool, true, false}
 use mathlib.Core.List.{List, [], ◌∷◌, ◌++◌, map}
 use lib.Dec.{eqb}
-use borrow.Author.Tests.{eqb-false, eq_eqb, ne_eqb}
+use borrow.Author.Tests.{eqb-false, eq-eqb, ne_eqb}
 use Rattle.week.specs.declared.refusal.Refusal.{Refusal}
 use Rattle.week.specs.Refusal.{accepted, refused, refused_if, or_else, first_of, first, unless_refused, at_place}
 
@@ -37,7 +37,7 @@ module _ (a b : Refusal) where
 
   pub or_second : a.number ≡ 0 → or_else a b ≡ b
   unfolding or_else
-  or_second h = simp (eq_eqb _ _ h)
+  or_second h = simp (eq-eqb _ _ h)
 
   or_none : (or_else a b).number ≡ 0 → (a.number ≡ 0) × (b.number ≡ 0)
   or_none h =
@@ -49,7 +49,7 @@ module _ (a b : Refusal) where
 
   or_assoc : (d : Refusal) → or_else (or_else a b) d ≡ or_else a (or_else b d)
   unfolding or_else
-  or_assoc d = elim (ℕ_discrete a.number 0) [ yes z ↦ simp (eq_eqb _ _ z) | no n ↦ simp (ne_eqb _ _ n) ]
+  or_assoc d = elim (ℕ_discrete a.number 0) [ yes z ↦ simp (eq-eqb _ _ z) | no n ↦ simp (ne_eqb _ _ n) ]
 
 or_accepted : (a : Refusal) → Proper a → or_else a accepted ≡ a
 or_accepted a p =
@@ -83,7 +83,7 @@ module _ (place : ℕ) (r : Refusal) where
 
   place_passed : r.number ≡ 0 → at_place place r ≡ accepted
   unfolding at_place unless_refused
-  place_passed z = rw (eq_eqb r.number 0 z)
+  place_passed z = rw (eq-eqb r.number 0 z)
 
   pub place_number : (at_place place r).number ≡ r.number
   place_number =

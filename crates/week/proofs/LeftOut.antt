@@ -6,7 +6,7 @@ use mathlib.Core.Path.{◌≡◌, refl, ◌∙◌}
 use mathlib.Core.List.{List, [], ◌∷◌, ◌++◌, append-nil}
 use lib.ListN.{length, get_or, take, set, length-append}
 use lib.Seq.{take-suc, length-take-le}
-use borrow.Author.Tests.{eq_eqb, ne_eqb}
+use borrow.Author.Tests.{eq-eqb, ne_eqb}
 use Rattle.arrays.specs.Made.{padded}
 use Rattle.arrays.proofs.Places.{padded_set}
 use Rattle.week.specs.declared.record.Batch.{Batch}
@@ -32,7 +32,7 @@ module _ (number : ℕ) (xs : List Batch) (i : ℕ) (more : i < length xs) {coun
   unfolding without
   passed_over e =
       let same : without number (take (i + 1) xs) ≡ without number (take i xs) =
-      next ∙ rw (eq_eqb _ _ e) (append-nil (without number (take i xs))) in
+      next ∙ rw (eq-eqb _ _ e) (append-nil (without number (take i xs))) in
       record { counted = rw same h.counted; stored = rw same h.stored }
 
   -- another is stored

@@ -7,7 +7,7 @@ use mathlib.Core.Logic.{◌↔◌}
 use mathlib.Core.Bool.{Bool, false}
 use mathlib.Core.List.{List, [], ◌∷◌, ◌++◌}
 use lib.Dec.{ltb, eqb}
-use borrow.Author.Tests.{lt_ltb}
+use borrow.Author.Tests.{lt-ltb}
 use Rattle.arrays.specs.Each.{All}
 use Rattle.arrays.proofs.Tests.{lt_fails}
 use Rattle.week.specs.declared.refusal.Refusal.{Refusal}
@@ -69,7 +69,7 @@ module _ (f : ℕ → Refusal) where
 -- of a lent slice
 pub short_refuses : (number : ℕ) {needed size : ℕ} → size < needed → short_fault number needed size ≡ refused number 0 0
 unfolding short_fault
-short_refuses number l = refused_if_true number 0 0 (lt_ltb _ _ l)
+short_refuses number l = refused_if_true number 0 0 (lt-ltb _ _ l)
 
 pub short_proper : (number needed size : ℕ) → eqb number 0 ≡ false → Proper (short_fault number needed size)
 unfolding short_fault

@@ -6,7 +6,7 @@ use mathlib.Core.Bool.{Bool, true, false, cond}
 use mathlib.Core.List.{List, [], ◌∷◌, ◌++◌}
 use lib.ListN.{length, get_or, take, drop}
 use lib.Dec.{eqb}
-use borrow.Author.Tests.{eq_eqb, ne_eqb}
+use borrow.Author.Tests.{eq-eqb, ne_eqb}
 use Rattle.arrays.specs.Each.{All, Pairs}
 use Rattle.arrays.specs.Rearranged.{Perm, none, keep, swap, both}
 use Rattle.arrays.proofs.Cases.{cond_cases}
@@ -83,7 +83,7 @@ module _ (n : ℕ) where
   unfolding without
   without_one d [] i h l e = absurd (omega arith)
   without_one d (b ∷ bs) zero h l e =
-      rw (eq_eqb b.number n e) (without_none bs (all_map (λ c other same. other (e ∙ sym same)) bs h.0))
+      rw (eq-eqb b.number n e) (without_none bs (all_map (λ c other same. other (e ∙ sym same)) bs h.0))
   without_one d (b ∷ bs) (suc i) h l e =
       let other : b.number ≡ n → ⊥ = λ same. (all_index (Others b) d bs).0 h.0 i (omega arith) (same ∙ sym e) in
       rw (ne_eqb b.number n other) (ap (λ (cs : List Batch). b ∷ cs) (without_one d bs i h.1 (omega arith) e))

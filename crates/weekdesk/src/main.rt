@@ -1,4 +1,6 @@
 // weekdesk: commands from standard input, one a line, each answered on standard output before more is read.
+#![tactic(auto)]
+
 mod commands;
 mod desk;
 mod help;

@@ -1,4 +1,6 @@
 // The desk's program: a sheet from standard input, its report to standard output.
+#![tactic(auto)]
+
 mod input;
 
 use crate::input::read_sheet;

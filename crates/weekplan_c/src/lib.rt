@@ -1,4 +1,6 @@
 // The planner as the station's control program calls it, from C: include/weekplan.h.
+#![tactic(auto)]
+
 ghost use Rattle.std.specs.Prelude.{◌≡◌, ◌↔◌, ◌++◌, ◌≤◌, length, take, drop};
 ghost use Rattle.week.specs.Record.{max_batches};
 ghost use Rattle.week.specs.Refusal.{first_of};

@@ -8,7 +8,7 @@ use mathlib.Core.List.{List, [], ◌∷◌, ◌++◌, append_assoc, append-nil}
 use lib.ListN.{length, take, length-append, length-take}
 use lib.Seq.{take_all, take-append-le, take_at}
 use lib.Dec.{eqb}
-use borrow.Author.Tests.{lt_ltb, le_ltb}
+use borrow.Author.Tests.{lt-ltb, le-ltb}
 use Rattle.arrays.specs.Made.{padded}
 use Rattle.arrays.specs.Text.{line_feed}
 use Rattle.arrays.proofs.Places.{padded_set}
@@ -66,14 +66,14 @@ byte_more bs b =
           rw (
             take_all held bs (omega arith),
             take_all held (bs ++ (b ∷ [])) (omega arith),
-            lt_ltb (length bs) held room,
+            lt-ltb (length bs) held room,
             padded_set held 0 bs (length bs) b refl room,
             size,
           )
       | no full ↦
           rw (
             take-append-le held bs (b ∷ []) (omega arith),
-            le_ltb (length (take held bs)) held (omega (arith, length-take held bs)),
+            le-ltb (length (take held bs)) held (omega (arith, length-take held bs)),
           )
     ]
 

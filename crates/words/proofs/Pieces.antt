@@ -7,7 +7,7 @@ use mathlib.Core.Bool.{true, false}
 use mathlib.Core.List.{List}
 use lib.ListN.{length, get_or, set, drop_of_length-le}
 use lib.Seq.{drop-cons}
-use borrow.Author.Tests.{eq_eqb, ne_eqb, lt_ltb, le_ltb}
+use borrow.Author.Tests.{eq-eqb, ne_eqb, lt-ltb, le-ltb}
 use Rattle.arrays.specs.Text.{line_feed}
 use Rattle.words.specs.declared.line.Line.{Line}
 use Rattle.words.specs.Line.{held, with_byte, with_bytes, before_feed, has_feed, extended_by}
@@ -16,11 +16,11 @@ use Rattle.words.specs.Line.{held, with_byte, with_bytes, before_feed, has_feed,
 pub byte_held : (bytes : List ℕ) (len b : ℕ) → len < held →
     with_byte (record { bytes = bytes; len = len }) b ≡ record { bytes = set bytes len b; len = len + 1 }
 unfolding with_byte
-byte_held bytes len b room = rw (lt_ltb len held room, add-one len)
+byte_held bytes len b room = rw (lt-ltb len held room, add-one len)
 
 pub byte_over : (line : Line) (b : ℕ) → held ≤ line.len → with_byte line b ≡ line
 unfolding with_byte
-byte_over line b full = rw (le_ltb line.len held full)
+byte_over line b full = rw (le-ltb line.len held full)
 
 module _ (line : Line) (piece : List ℕ) (i : ℕ) where
   -- a piece that is over leaves the line as it is
@@ -34,7 +34,7 @@ module _ (line : Line) (piece : List ℕ) (i : ℕ) where
     unfolding extended_by before_feed has_feed with_bytes
     extended_feed e =
         let next : suc (i + 0) ≡ i + 1 = omega arith in
-        rw (drop-cons piece i 0 more, eq_eqb _ _ e, next)
+        rw (drop-cons piece i 0 more, eq-eqb _ _ e, next)
 
     -- any other byte is one more of it
     pub extended_byte : (get_or piece i 0 ≡ line_feed → ⊥) →

@@ -5,7 +5,7 @@ use native.Mathlib.Omega.{arith}
 use mathlib.Core.Path.{◌≡◌, refl, sym, ap, ◌∙◌}
 use mathlib.Core.List.{List, [], ◌∷◌, ◌++◌}
 use lib.ListN.{length}
-use borrow.Author.Tests.{eq_eqb, ne_eqb}
+use borrow.Author.Tests.{eq-eqb, ne_eqb}
 use Rattle.arrays.specs.Each.{All}
 use Rattle.arrays.specs.Text.{space}
 use Rattle.text.specs.Line.{spaced}
@@ -14,7 +14,7 @@ use Rattle.words.specs.Word.{joined, parts_of, some_bytes, words_of, Unbroken, I
 -- a space ends a part, and any other byte is the first of one
 parts_space : (b : ℕ) (bs : List ℕ) → b ≡ space → parts_of (b ∷ bs) ≡ [] ∷ parts_of bs
 unfolding parts_of
-parts_space b bs e = rw (eq_eqb _ _ e)
+parts_space b bs e = rw (eq-eqb _ _ e)
 
 parts_other : (b : ℕ) (bs : List ℕ) → (b ≡ space → ⊥) → parts_of (b ∷ bs) ≡ joined b (parts_of bs)
 unfolding parts_of
@@ -82,7 +82,7 @@ unfolding parts_of
 parts_unbroken [] = (tt, tt)
 parts_unbroken (b ∷ bs) =
     elim (ℕ_discrete b space) [
-      | yes e ↦ rw (eq_eqb b space e) (tt, parts_unbroken bs)
+      | yes e ↦ rw (eq-eqb b space e) (tt, parts_unbroken bs)
       | no n ↦ rw (ne_eqb b space n) (joined_unbroken b (parts_of bs) n (parts_unbroken bs))
     ]
 
@@ -108,6 +108,6 @@ unfolding words_of parts_of some_bytes
 words_few [] = omega arith
 words_few (b ∷ bs) =
     elim (ℕ_discrete b space) [
-      | yes e ↦ rw (eq_eqb b space e) (omega (arith, words_few bs))
+      | yes e ↦ rw (eq-eqb b space e) (omega (arith, words_few bs))
       | no n ↦ rw (ne_eqb b space n) (omega (arith, joined_few b (parts_of bs), words_few bs))
     ]

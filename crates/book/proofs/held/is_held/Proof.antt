@@ -5,7 +5,7 @@ use mathlib.Core.Path.{◌≡◌, refl, sym, ap, ◌∙◌}
 use mathlib.Core.Bool.{false}
 use lib.Dec.{eqb}
 use borrow.Author.Rules.{rules}
-use borrow.Author.Tests.{eq_eqb, ne_eqb}
+use borrow.Author.Tests.{eq-eqb, ne_eqb}
 use Rattle.arrays.specs.Each.{some_below}
 use Rattle.arrays.proofs.Each.{some_below_lem, none_more}
 use Rattle.week.specs.Record.{max_batches, number_at}
@@ -45,7 +45,7 @@ element-copy-out-batch c = search rules
 returns : tie.Need-returns invariant-loop decreases-loop
 returns c =
     let told = c.before.before.before.before.before in
-    sym (by_index told.before ∙ some_below_lem _ _ _ (omega (arith, told.places.ensures)) (eq_eqb _ _ c.if1.true))
+    sym (by_index told.before ∙ some_below_lem _ _ _ (omega (arith, told.places.ensures)) (eq-eqb _ _ c.if1.true))
 
 add-i : tie.Need-overflow-add-i invariant-loop decreases-loop
 add-i c = search rules

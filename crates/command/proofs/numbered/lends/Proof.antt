@@ -1,7 +1,7 @@
 -- `lends` meets its contract: each test decides as the definition's.
 use mathlib.Core.Path.{sym, ◌∙◌}
 use mathlib.Core.Logic.{⊎_elim}
-use borrow.Author.Tests.{lt_leb}
+use borrow.Author.Tests.{lt-leb}
 use borrow.Author.Rules.{rules}
 use Rattle.command.specs.Numbered.{lends_up_to}
 use Rattle.command.proofs.Lending.{lends_small, lends_large}
@@ -25,7 +25,7 @@ returns c =
     let handed = one.before.before.args in
     let small = lends_small handed.most handed.numbers one.if1.true two.if2.true three.if3.true in
     let large = lends_large handed.most handed.numbers one.if1.true two.if2.true three.if3.true in
-    ⊎_elim (λ w. w.1 ∙ sym (small w.0.taken)) (λ w. w.1 ∙ lt_leb _ _ w.0.left ∙ sym (large w.0.left)) c.if4.branch
+    ⊎_elim (λ w. w.1 ∙ sym (small w.0.taken)) (λ w. w.1 ∙ lt-leb _ _ w.0.left ∙ sym (large w.0.left)) c.if4.branch
 
 returns-2 : tie.Need-returns-2
 unfolding lends_up_to

@@ -1,6 +1,6 @@
 -- `hex_digit` meets its contract: a decimal digit, or a letter.
 use borrow.Author.Rules.{rules}
-use borrow.Author.Tests.{lt_ltb, le_ltb}
+use borrow.Author.Tests.{lt-ltb, le-ltb}
 use Rattle.draft.specs.Sheet.{hex_digit}
 use Rattle.draft.proofs.hex.hex_digit.Statement.{statement}
 use Rattle.draft.proofs.hex.hex_digit.Tie as tie
@@ -10,14 +10,14 @@ add-result c = search rules
 
 returns : tie.Need-returns
 unfolding hex_digit
-returns c = simp (lt_ltb _ _ c.if1.true)
+returns c = simp (lt-ltb _ _ c.if1.true)
 
 add-result-2 : tie.Need-overflow-add-result-2
 add-result-2 c = search rules
 
 returns-2 : tie.Need-returns-2
 unfolding hex_digit
-returns-2 c = simp (le_ltb _ _ c.if1.false)
+returns-2 c = simp (le-ltb _ _ c.if1.false)
 
 pub hex-digit-spec : {M : Type 1} → statement M
 hex-digit-spec = tie.close (tie.spec add-result returns add-result-2 returns-2)

@@ -4,7 +4,7 @@ use native.Mathlib.Numerals.{add-one}
 use native.Mathlib.Omega.{arith}
 use mathlib.Core.Path.{◌≡◌, refl, ◌∙◌}
 use borrow.Author.Rules.{rules}
-use borrow.Author.Tests.{lt_ltb, le_ltb}
+use borrow.Author.Tests.{lt-ltb, le-ltb}
 use Rattle.week.specs.Refusal.{refused_if, first_of, first, or_else}
 use Rattle.week.proofs.First.{refuses, search_after, search_found, search_on, search_over}
 use Rattle.draft.specs.Sheet.{unkept, sheet_fault}
@@ -22,11 +22,11 @@ at-requires c κs = search rules
 
 returns : tie.Need-returns invariant-loop decreases-loop
 unfolding sheet_fault first_of refused_if or_else
-returns c = simp (c.at.ensures, lt_ltb _ _ c.before.if1.true)
+returns c = simp (c.at.ensures, lt-ltb _ _ c.before.if1.true)
 
 loop-holds : tie.Need-loop-init invariant-loop decreases-loop
 unfolding sheet_fault
-loop-holds c = (search rules, search_after _ _ _ _ _ (le_ltb _ _ c.if1.false))
+loop-holds c = (search rules, search_after _ _ _ _ _ (le-ltb _ _ c.if1.false))
 
 mul-batch : tie.Need-overflow-mul-batch invariant-loop decreases-loop
 mul-batch c = search rules
@@ -44,7 +44,7 @@ returns-2 : tie.Need-returns-2 invariant-loop decreases-loop
 unfolding unkept refused_if
 returns-2 c =
     let at = c.before.before.before.before.before in
-    search_found _ _ _ at.loop.invariant.1 (omega arith) (simp (c.at2.ensures, add-one, lt_ltb _ _ c.before.if2.true))
+    search_found _ _ _ at.loop.invariant.1 (omega arith) (simp (c.at2.ensures, add-one, lt-ltb _ _ c.before.if2.true))
     (refuses 4 refl c.at2.ensures)
 
 add-i : tie.Need-overflow-add-i invariant-loop decreases-loop
@@ -57,7 +57,7 @@ loop-again : tie.Need-loop-preserved invariant-loop decreases-loop
 unfolding unkept refused_if
 loop-again c =
     let at = c.before.before.before.before in
-    (omega arith, search_on _ _ _ at.loop.invariant.1 (omega arith) (simp (le_ltb _ _ c.if2.false)))
+    (omega arith, search_on _ _ _ at.loop.invariant.1 (omega arith) (simp (le-ltb _ _ c.if2.false)))
 
 none-requires : tie.Need-none-requires invariant-loop decreases-loop
 none-requires c κs = search rules

@@ -1,6 +1,6 @@
 -- `changes` meets its contract. The loop's invariant is that of a count; the measure is how many entries are left.
 use borrow.Author.Rules.{rules}
-use borrow.Author.Tests.{eq_eqb, ne_eqb}
+use borrow.Author.Tests.{eq-eqb, ne_eqb}
 use native.Mathlib.Omega.{arith}
 use Prim.Native.Nat.{◌-◌}
 use mathlib.Core.Path.{refl}
@@ -46,7 +46,7 @@ loop-again c =
     (λ w. rw (ne_eqb _ _ w.0.taken, w.1.taken) w.2)
     (λ w. ⊎_elim
     (λ v. rw (ne_eqb _ _ v.0.taken, v.1.left) w.1)
-    (λ v. rw (eq_eqb _ _ v.left) w.1)
+    (λ v. rw (eq-eqb _ _ v.left) w.1)
     w.0.came)
     c.if1.branch)
 

@@ -1,6 +1,6 @@
 -- `entries` meets its contract. The loop's invariant is that of a count; the measure is how many entries are left.
 use borrow.Author.Rules.{rules}
-use borrow.Author.Tests.{eq_eqb, ne_eqb}
+use borrow.Author.Tests.{eq-eqb, ne_eqb}
 use native.Mathlib.Omega.{arith}
 use Prim.Native.Nat.{◌-◌}
 use mathlib.Core.Path.{refl}
@@ -42,7 +42,7 @@ loop-again c =
     let l = c.before.before.before in
     let a = l.before.args in
     counted_step l.loop.invariant (omega arith) (eqb (get_or a.log.now l.loop.m 0) a.position) refl
-    (⊎_elim (λ w. rw (eq_eqb _ _ w.0.taken) w.1) (λ w. rw (ne_eqb _ _ w.0.left) w.1) c.if1.branch)
+    (⊎_elim (λ w. rw (eq-eqb _ _ w.0.taken) w.1) (λ w. rw (ne_eqb _ _ w.0.left) w.1) c.if1.branch)
 
 returns : tie.Need-returns invariant-loop decreases-loop
 unfolding entries

@@ -1,6 +1,6 @@
 -- `up_to_last` meets its contract. The loop's invariant is that of the last; the measure is how many entries are left.
 use borrow.Author.Rules.{rules}
-use borrow.Author.Tests.{eq_eqb, ne_eqb}
+use borrow.Author.Tests.{eq-eqb, ne_eqb}
 use native.Mathlib.Omega.{arith}
 use Prim.Native.Nat.{◌-◌}
 use mathlib.Core.Logic.{⊎_elim}
@@ -33,7 +33,7 @@ loop-again : tie.Need-loop-preserved invariant-loop decreases-loop
 loop-again c =
     let l = c.before.before.before in
     last_step l.loop.invariant (omega arith)
-    (⊎_elim (λ w. rw (eq_eqb _ _ w.0.taken) w.1) (λ w. rw (ne_eqb _ _ w.0.left) w.1) c.if1.branch)
+    (⊎_elim (λ w. rw (eq-eqb _ _ w.0.taken) w.1) (λ w. rw (ne_eqb _ _ w.0.left) w.1) c.if1.branch)
 
 returns : tie.Need-returns invariant-loop decreases-loop
 returns c = last_end c.before.loop.invariant (omega arith)

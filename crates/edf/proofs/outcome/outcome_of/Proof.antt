@@ -1,7 +1,7 @@
 -- `outcome_of` meets its contract: the three cases of an outcome. What is counted over a log is at most its length, which 16 bits
 -- hold.
 use borrow.Author.Rules.{rules}
-use borrow.Author.Tests.{le_leb, lt_leb}
+use borrow.Author.Tests.{le-leb, lt-leb}
 use native.Mathlib.Omega.{arith}
 use Rattle.edf.specs.Run.{outcome_of}
 use Rattle.edf.proofs.Counts.{entries_short, up_to_last_short}
@@ -37,7 +37,7 @@ returns-2 : tie.Need-returns-2
 unfolding outcome_of
 returns-2 c =
     let e = c.before.before in
-    rw (e.before.if1.false, ← e.entries.ensures, le_leb _ _ c.before.if2.true, c.up-to-last.ensures)
+    rw (e.before.if1.false, ← e.entries.ensures, le-leb _ _ c.before.if2.true, c.up-to-last.ensures)
 
 sub-t12 : tie.Need-overflow-sub-t12
 sub-t12 c = search rules
@@ -46,7 +46,7 @@ returns-3 : tie.Need-returns-3
 unfolding outcome_of
 returns-3 c =
     let e = c.before in
-    rw (e.before.if1.false, ← e.entries.ensures, lt_leb _ _ c.if2.false)
+    rw (e.before.if1.false, ← e.entries.ensures, lt-leb _ _ c.if2.false)
 
 pub outcome-of-spec : {M : Type 1} → statement M
 outcome-of-spec =

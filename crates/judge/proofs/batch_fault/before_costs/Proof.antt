@@ -2,7 +2,7 @@
 use native.Mathlib.Omega.{arith}
 use mathlib.Core.Logic.{⊎_elim}
 use borrow.Author.Rules.{rules}
-use borrow.Author.Tests.{eq_eqb, ne_eqb, le_leb, lt_leb}
+use borrow.Author.Tests.{eq-eqb, ne_eqb, le-leb, lt-leb}
 use Rattle.week.specs.Refusal.{refused_if, first_of, or_else}
 use Rattle.judge.proofs.batch_fault.before_costs.Statement.{statement}
 use Rattle.judge.proofs.batch_fault.before_costs.Tie as tie
@@ -16,7 +16,7 @@ returns c =
     let counted = c.before in
     let b = counted.before.before.args.b in
     ⊎_elim
-    (λ w. simp (c.at.ensures, eq_eqb b.count 0 w.taken))
+    (λ w. simp (c.at.ensures, eq-eqb b.count 0 w.taken))
     (λ w. simp (c.at.ensures, ne_eqb b.count 0 w.0.left, w.2.taken))
     counted.if1.branch
 
@@ -32,7 +32,7 @@ returns-2 c =
       c.at2.ensures,
       ne_eqb b.count 0 (omega arith),
       counted.if2.false,
-      le_leb b.due b.arrival (omega arith),
+      le-leb b.due b.arrival (omega arith),
     )
 
 at-requires-3 : tie.Need-at-requires-3
@@ -48,8 +48,8 @@ returns-3 c =
       c.at3.ensures,
       ne_eqb b.count 0 (omega arith),
       counted.if2.false,
-      lt_leb b.due b.arrival (omega arith),
-      le_leb a.closing b.arrival (omega arith),
+      lt-leb b.due b.arrival (omega arith),
+      le-leb a.closing b.arrival (omega arith),
     )
 
 none-requires : tie.Need-none-requires
@@ -65,8 +65,8 @@ returns-4 c =
       c.none.ensures,
       ne_eqb b.count 0 (omega arith),
       counted.if2.false,
-      lt_leb b.due b.arrival (omega arith),
-      lt_leb a.closing b.arrival (omega arith),
+      lt-leb b.due b.arrival (omega arith),
+      lt-leb a.closing b.arrival (omega arith),
     )
 
 pub before-costs-spec : {M : Type 1} → statement M

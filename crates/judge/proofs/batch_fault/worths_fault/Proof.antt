@@ -6,7 +6,7 @@ use native.Mathlib.Omega.{arith}
 use mathlib.Core.Path.{◌≡◌, refl, ◌∙◌}
 use mathlib.Core.Logic.{⊎_elim}
 use borrow.Author.Rules.{rules}
-use borrow.Author.Tests.{eq_eqb, ne_eqb}
+use borrow.Author.Tests.{eq-eqb, ne_eqb}
 use Rattle.week.specs.Refusal.{refused_if, first}
 use Rattle.judge.specs.BatchFault.{worth_fault}
 use Rattle.week.proofs.First.{refuses, search_found, search_on, search_over}
@@ -41,7 +41,7 @@ returns c =
     let cost = worth.before.before in
     let at = cost.before.before.before.before in
     search_found _ _ _ at.loop.invariant.1 (omega arith)
-    (simp (c.at.ensures, add-one, eq_eqb _ _ cost.if1.true, worth.if2.true))
+    (simp (c.at.ensures, add-one, eq-eqb _ _ cost.if1.true, worth.if2.true))
     (refuses 8 refl c.at.ensures)
 
 add-k : tie.Need-overflow-add-k invariant-loop decreases-loop
@@ -57,7 +57,7 @@ loop-again c =
       omega arith,
       search_on _ _ _ at.loop.invariant.1 (omega arith)
           (⊎_elim
-          (λ w. simp (eq_eqb _ _ w.0.taken, w.2.left))
+          (λ w. simp (eq-eqb _ _ w.0.taken, w.2.left))
           (λ w. simp (ne_eqb _ _ w.left))
           c.if1.branch),
     )

@@ -6,7 +6,7 @@ use native.Mathlib.Omega.{arith}
 use mathlib.Core.Path.{◌≡◌, refl, sym, ◌∙◌}
 use mathlib.Core.Logic.{⊎_elim}
 use borrow.Author.Rules.{rules}
-use borrow.Author.Tests.{lt_ltb, le_ltb}
+use borrow.Author.Tests.{lt-ltb, le-ltb}
 use Rattle.week.specs.declared.record.Week.{Week}
 use Rattle.week.specs.declared.refusal.Refusal.{Refusal}
 use Rattle.week.specs.Record.{max_recipes, batch_at}
@@ -127,7 +127,7 @@ loop-again c =
       omega arith,
       omega arith,
       at.loop.invariant.2,
-      search_on _ _ _ at.loop.invariant.3 (omega arith) (simp (le_ltb _ _ falls.if3.false, c.if4.false)),
+      search_on _ _ _ at.loop.invariant.3 (omega arith) (simp (le-ltb _ _ falls.if3.false, c.if4.false)),
     )
 
 after-costs-requires : tie.Need-after-costs-requires invariant-loop decreases-loop invariant-batches decreases-batches
@@ -180,8 +180,8 @@ returns-3 c =
     let found =
     search_found _ _ _ at.before.loop.invariant.3 {r = fault} at.loop-test.true
     (⊎_elim
-    (λ w. simp (add-one, lt_ltb _ _ w.taken))
-    (λ w. simp (add-one, le_ltb _ _ w.0.left, w.2.taken))
+    (λ w. simp (add-one, lt-ltb _ _ w.taken))
+    (λ w. simp (add-one, le-ltb _ _ w.0.left, w.2.taken))
     faulty.if3.branch)
     refuses
     in

@@ -5,7 +5,7 @@ use native.Mathlib.Omega.{arith}
 use mathlib.Core.Path.{◌≡◌, refl, ◌∙◌}
 use mathlib.Core.Logic.{⊎_elim}
 use borrow.Author.Rules.{rules}
-use borrow.Author.Tests.{eq_eqb, ne_eqb}
+use borrow.Author.Tests.{eq-eqb, ne_eqb}
 use Rattle.week.specs.Refusal.{refused_if, first_of, first, or_else}
 use Rattle.judge.specs.Fault.{name_fault, choice_fault}
 use Rattle.week.proofs.First.{refuses, search_after, search_found, search_on, search_over}
@@ -27,7 +27,7 @@ returns c = simp (c.at.ensures, ne_eqb _ _ c.before.if1.true)
 
 loop-holds : tie.Need-loop-init invariant-loop decreases-loop
 unfolding choice_fault
-loop-holds c = (search rules, search_after _ _ _ _ _ (rw (eq_eqb _ _ c.if1.false)))
+loop-holds c = (search rules, search_after _ _ _ _ _ (rw (eq-eqb _ _ c.if1.false)))
 
 mul-b : tie.Need-overflow-mul-b invariant-loop decreases-loop
 mul-b c = search rules
@@ -54,7 +54,7 @@ returns-2 c =
     let at = unnamed.before.before.before.before in
     search_found _ _ _ at.loop.invariant.1 (omega arith)
     (⊎_elim
-    (λ w. simp (c.at2.ensures, add-one, eq_eqb _ _ w.taken))
+    (λ w. simp (c.at2.ensures, add-one, eq-eqb _ _ w.taken))
     (λ w. simp (c.at2.ensures, add-one, ne_eqb _ _ w.0.left, w.2.taken))
     unnamed.if2.branch)
     (refuses 13 refl c.at2.ensures)

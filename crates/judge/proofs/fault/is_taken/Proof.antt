@@ -6,7 +6,7 @@ use mathlib.Core.Bool.{false}
 use lib.ListN.{get_or}
 use lib.Dec.{eqb}
 use borrow.Author.Rules.{rules}
-use borrow.Author.Tests.{eq_eqb, ne_eqb}
+use borrow.Author.Tests.{eq-eqb, ne_eqb}
 use Rattle.arrays.specs.Each.{some_below}
 use Rattle.arrays.proofs.Each.{some_below_lem, none_more}
 use Rattle.judge.proofs.fault.is_taken.Statement.{statement}
@@ -29,7 +29,7 @@ array-read-if1 : tie.Need-array-read-if1 invariant-loop decreases-loop
 array-read-if1 c = search rules
 
 returns : tie.Need-returns invariant-loop decreases-loop
-returns c = sym (some_below_lem _ _ _ (omega arith) (eq_eqb _ _ c.if1.true))
+returns c = sym (some_below_lem _ _ _ (omega arith) (eq-eqb _ _ c.if1.true))
 
 add-h : tie.Need-overflow-add-h invariant-loop decreases-loop
 add-h c = search rules

@@ -1,7 +1,7 @@
 -- `number_fault` answers 9: the test, and what `is_taken` answers, are those that its condition asks.
 use mathlib.Core.Logic.{⊎_elim}
 use borrow.Author.Rules.{rules}
-use borrow.Author.Tests.{eq_eqb, ne_eqb}
+use borrow.Author.Tests.{eq-eqb, ne_eqb}
 use Rattle.week.specs.Refusal.{refused_if}
 use Rattle.judge.specs.Fault.{number_fault}
 use Rattle.judge.proofs.fault.number_fault.Statement.{statement}
@@ -17,7 +17,7 @@ returns : tie.Need-returns
 unfolding number_fault refused_if
 returns c =
     ⊎_elim
-    (λ w. simp (c.at.ensures, eq_eqb _ _ w.taken))
+    (λ w. simp (c.at.ensures, eq-eqb _ _ w.taken))
     (λ w. simp (c.at.ensures, ne_eqb _ _ w.0.left, ← w.1.ensures, w.2.taken))
     c.before.if1.branch
 

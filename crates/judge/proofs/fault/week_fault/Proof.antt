@@ -2,7 +2,7 @@
 use Prim.Native.Nat.{◌-◌}
 use native.Mathlib.Omega.{arith}
 use borrow.Author.Rules.{rules}
-use borrow.Author.Tests.{le_leb, lt_leb, lt_ltb, le_ltb}
+use borrow.Author.Tests.{le-leb, lt-leb, lt-ltb, le-ltb}
 use Rattle.week.specs.Record.{max_minutes, max_batches}
 use Rattle.week.specs.Refusal.{refused_if, first_of, or_else}
 use Rattle.judge.specs.Fault.{week_fault}
@@ -16,7 +16,7 @@ returns : tie.Need-returns
 unfolding week_fault first_of refused_if or_else
 returns c =
     let w = c.before.before.before.args.week in
-    simp (c.at.ensures, le_leb w.closing w.opening (omega arith))
+    simp (c.at.ensures, le-leb w.closing w.opening (omega arith))
 
 sub-if2 : tie.Need-overflow-sub-if2
 sub-if2 c = search rules
@@ -30,8 +30,8 @@ returns-2 c =
     let w = c.before.before.before.before.before.args.week in
     simp (
       c.at2.ensures,
-      lt_leb w.closing w.opening (omega arith),
-      lt_ltb max_minutes (w.closing - w.opening) (omega arith),
+      lt-leb w.closing w.opening (omega arith),
+      lt-ltb max_minutes (w.closing - w.opening) (omega arith),
     )
 
 at-requires-3 : tie.Need-at-requires-3
@@ -43,9 +43,9 @@ returns-3 c =
     let w = c.before.before.before.before.before.before.before.args.week in
     simp (
       c.at3.ensures,
-      lt_leb w.closing w.opening (omega arith),
-      le_ltb max_minutes (w.closing - w.opening) (omega arith),
-      lt_ltb max_batches w.count (omega arith),
+      lt-leb w.closing w.opening (omega arith),
+      le-ltb max_minutes (w.closing - w.opening) (omega arith),
+      lt-ltb max_batches w.count (omega arith),
     )
 
 none-requires : tie.Need-none-requires
@@ -57,9 +57,9 @@ returns-4 c =
     let w = c.before.before.before.before.before.before.before.args.week in
     simp (
       c.none.ensures,
-      lt_leb w.closing w.opening (omega arith),
-      le_ltb max_minutes (w.closing - w.opening) (omega arith),
-      le_ltb max_batches w.count (omega arith),
+      lt-leb w.closing w.opening (omega arith),
+      le-ltb max_minutes (w.closing - w.opening) (omega arith),
+      le-ltb max_batches w.count (omega arith),
     )
 
 pub week-fault-spec : {M : Type 1} → statement M

@@ -1,7 +1,7 @@
 -- `frame_fault` answers 16 or 17 of a line, by what it is and whether it stands first.
 use mathlib.Core.Path.{◌∙◌}
 use borrow.Author.Rules.{rules}
-use borrow.Author.Tests.{eq_eqb, ne_eqb}
+use borrow.Author.Tests.{eq-eqb, ne_eqb}
 use Rattle.week.specs.Refusal.{refused_if}
 use Rattle.sheet.specs.Fault.{frame_fault}
 use Rattle.sheet.proofs.fault.frame_fault.Statement.{statement}
@@ -37,7 +37,7 @@ returns c = c.at.ensures ∙ rw c.before.enum_told.given.1
 
 returns-2 : tie.Need-returns-2
 unfolding frame_fault refused_if
-returns-2 c = c.none.ensures ∙ rw (c.before.before.enum-told2.given.1, eq_eqb _ _ c.before.if1.true)
+returns-2 c = c.none.ensures ∙ rw (c.before.before.enum-told2.given.1, eq-eqb _ _ c.before.if1.true)
 
 returns-3 : tie.Need-returns-3
 unfolding frame_fault refused_if
@@ -49,7 +49,7 @@ returns-4 c = c.none2.ensures ∙ rw (c.before.before.enum-told3.given.1, ne_eqb
 
 returns-5 : tie.Need-returns-5
 unfolding frame_fault refused_if
-returns-5 c = c.at3.ensures ∙ rw (c.before.before.enum-told3.given.1, eq_eqb _ _ c.before.if2.false)
+returns-5 c = c.at3.ensures ∙ rw (c.before.before.enum-told3.given.1, eq-eqb _ _ c.before.if2.false)
 
 pub frame-fault-spec : {M : Type 1} → statement M
 frame-fault-spec =

@@ -5,7 +5,7 @@ use mathlib.Core.Path.{◌≡◌}
 use mathlib.Core.Bool.{and-false}
 use lib.ListN.{length}
 use borrow.Author.Rules.{rules}
-use borrow.Author.Tests.{eq_eqb, ne_eqb}
+use borrow.Author.Tests.{eq-eqb, ne_eqb}
 use Rattle.sheet.specs.Hex.{byte_at}
 use Rattle.sheet.specs.Frame.{length_of, is_batch}
 use Rattle.sheet.proofs.frame.is_batch.Statement.{statement}
@@ -42,7 +42,7 @@ unfolding is_batch
 returns-3 c =
     let line = c.before.before.before.before.before.args.line.now in
     let long : 17 + 8 * c.byte-at2.result ≡ length_of (8 + 4 * byte_at line 7) = omega (arith, c.byte-at2.ensures) in
-    simp (eq_eqb _ _ (rw c.before.before.byte_at_lem.ensures at c.before.if2.false), long)
+    simp (eq-eqb _ _ (rw c.before.before.byte_at_lem.ensures at c.before.if2.false), long)
 
 pub is-batch-spec : {M : Type 1} → statement M
 is-batch-spec =

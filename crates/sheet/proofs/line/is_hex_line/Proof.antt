@@ -5,7 +5,7 @@ use mathlib.Core.Bool.{◌&&◌}
 use lib.ListN.{length, get_or, drop}
 use lib.Dec.{eqb}
 use borrow.Author.Rules.{rules}
-use borrow.Author.Tests.{eq_eqb, ne_eqb, not-true, not-false}
+use borrow.Author.Tests.{eq-eqb, ne_eqb, not-true, not-false}
 use Rattle.arrays.specs.Text.{line_feed}
 use Rattle.sheet.specs.Line.{hex_line}
 use Rattle.sheet.proofs.HexLines.{hex_over, hex_digit_lem, hex_other}
@@ -41,7 +41,7 @@ is-digit-requires : tie.Need-is-digit-requires invariant-loop decreases-loop
 is-digit-requires c κs = search rules
 
 returns : tie.Need-returns invariant-loop decreases-loop
-returns c = simp (eq_eqb _ _ c.if2.true) at (decided c.before)
+returns c = simp (eq-eqb _ _ c.if2.true) at (decided c.before)
 
 returns-2 : tie.Need-returns-2 invariant-loop decreases-loop
 returns-2 c =

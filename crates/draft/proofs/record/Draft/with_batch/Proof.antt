@@ -2,7 +2,7 @@
 use borrow.Author.Rules.{rules}
 use native.Mathlib.Numerals.{add-one}
 use native.Mathlib.Omega.{arith}
-use borrow.Author.Tests.{lt_ltb, le_ltb, le_leb, lt_leb}
+use borrow.Author.Tests.{lt-ltb, le-ltb, le-leb, lt-leb}
 use mathlib.Core.Path.{◌≡◌}
 use mathlib.Core.Logic.{⊎_elim}
 use mathlib.Core.Bool.{cond}
@@ -28,7 +28,7 @@ stored : (c : tie.Joined1) →
       count = d.count;
       batches = cond (ltb d.count max_kept) (set d.batches d.count c.before.args.batch) d.batches;
     }
-stored c = ⊎_elim (λ w. rw (lt_ltb _ _ w.0.taken) w.1) (λ w. rw (le_ltb _ _ w.0.left) w.1) c.if1.branch
+stored c = ⊎_elim (λ w. rw (lt-ltb _ _ w.0.taken) w.1) (λ w. rw (le-ltb _ _ w.0.left) w.1) c.if1.branch
 
 add-self : tie.Need-overflow-add-self
 add-self c = search rules
@@ -37,13 +37,13 @@ returns : tie.Need-returns
 unfolding with_batch
 returns c =
     let d = c.before.before.args.t1 in
-    rw (stored c.before, le_leb d.count max_kept (omega arith), add-one)
+    rw (stored c.before, le-leb d.count max_kept (omega arith), add-one)
 
 returns-2 : tie.Need-returns-2
 unfolding with_batch
 returns-2 c =
     let d = c.before.before.args.t1 in
-    rw (lt_leb d.count max_kept (omega arith)) (stored c.before)
+    rw (lt-leb d.count max_kept (omega arith)) (stored c.before)
 
 pub with-batch-spec : {M : Type 1} → statement M
 with-batch-spec = tie.close (tie.spec mul-batch element-set-from-batch add-self returns returns-2)
