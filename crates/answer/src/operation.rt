@@ -21,7 +21,7 @@ use week::refusal::Refusal;
 const MAX_ANSWER: usize = RAN_WIDTH + BATCHES_WIDTH;
 
 // An answer: its text, in an array that is 0 beyond it, and how many bytes the text has.
-#[derive(Drop)]
+#[derive(Clone, Copy)]
 pub struct AnswerText {
     pub bytes: [u8; MAX_ANSWER],
     pub len: usize,

@@ -2,12 +2,12 @@
 use week::record::Week;
 use week::refusal::Refusal;
 
-#[derive(Drop)]
+#[derive(Clone, Copy)]
 pub struct Book {
     pub list: Week,
 }
 
-#[derive(Drop)]
+#[derive(Clone, Copy)]
 pub struct Answered {
     pub refusal: Refusal,
     pub book: Book,

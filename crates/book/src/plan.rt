@@ -7,7 +7,7 @@ use crate::book::Book;
 use planner::choose::{Plan, choose};
 use week::written::fresh;
 
-#[derive(Drop)]
+#[derive(Clone, Copy)]
 pub struct Planned {
     pub plan: Plan,
     pub book: Book,

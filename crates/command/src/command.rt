@@ -6,7 +6,7 @@ use week::record::Batch;
 use words::numbers::MAX_KEPT;
 
 // A choice, as it is handed in: the recipe of each batch.
-#[derive(Drop)]
+#[derive(Clone, Copy)]
 pub struct Choice {
     pub count: usize,
     pub recipes: [u8; MAX_KEPT],
@@ -24,7 +24,7 @@ impl Choice {
 }
 
 // What a line asks for, with its numbers where they are few.
-#[derive(Drop)]
+#[derive(Clone, Copy)]
 pub enum Kind {
     // An empty line, or a comment.
     Nothing,
@@ -54,7 +54,7 @@ pub enum Kind {
 
 // A command: its batch and its choice stand beside the kind, and are empty where it has none, since an enum that holds an array is
 // not covered by the borrow checker.
-#[derive(Drop)]
+#[derive(Clone, Copy)]
 pub struct Command {
     pub kind: Kind,
     pub batch: Batch,

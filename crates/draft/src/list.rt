@@ -22,7 +22,7 @@ const BATCH_WIDTH: usize = 5 + 3 * 6 + MAX_PRINTED * RECIPE_WIDTH + 1;
 
 const MAX_LIST: usize = WEEK_WIDTH + Draft::MAX_BATCHES * BATCH_WIDTH;
 
-#[derive(Drop)]
+#[derive(Clone, Copy)]
 pub struct ListText {
     pub bytes: [u8; MAX_LIST],
     pub len: usize,

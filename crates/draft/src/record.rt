@@ -5,7 +5,7 @@ ghost use Rattle.draft.specs.Record.{empty_draft, with_batch, week_of, of_week};
 use week::record::{Batch, Week};
 
 // The batches are counted up to one more than are kept, so that more is told from it.
-#[derive(Drop)]
+#[derive(Clone, Copy)]
 pub struct Draft {
     pub opening: u16,
     pub closing: u16,

@@ -24,7 +24,7 @@ const RECIPE_LENGTH: usize = 8;
 const MAX_SHEET: usize = WEEK_LENGTH
     + Week::MAX_BATCHES * (BATCH_LENGTH + RECIPE_LENGTH * Batch::MAX_RECIPES);
 
-#[derive(Drop)]
+#[derive(Clone, Copy)]
 pub struct SheetText {
     pub bytes: [u8; MAX_SHEET],
     pub len: usize,

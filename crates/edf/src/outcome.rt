@@ -7,7 +7,7 @@ use crate::log::{entries, up_to_last};
 
 // Document 01: "For each batch the run answers one of: set aside; finished, with the minute after its last;
 // unfinished, with the minutes left."
-#[derive(Drop)]
+#[derive(Clone, Copy)]
 pub enum Outcome {
     SetAside,
     Finished(u16),

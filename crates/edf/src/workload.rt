@@ -8,7 +8,7 @@ use jobs::model::{JobList, Version};
 
 // For each job, in list order, the minute from which the station can read it, its minutes to read, and whether it is set aside: a
 // job that has nothing to read need not be.
-#[derive(Drop)]
+#[derive(Clone, Copy)]
 pub struct Workload {
     pub count: usize,
     pub ready: [u16; JobList::MAX_JOBS],

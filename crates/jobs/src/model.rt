@@ -3,7 +3,7 @@ ghost use Rattle.std.specs.Prelude.{◌≡◌, ◌≤◌};
 ghost use Rattle.jobs.specs.Model.{max_versions, version_of};
 
 // One way to read a job. Document 01 calls it a recipe.
-#[derive(Drop)]
+#[derive(Clone, Copy)]
 pub struct Version {
     // Whether the station reads the job; if not, it is set aside. The record layer decides: a cost of 0 does not say it.
     pub read: bool,
@@ -13,7 +13,7 @@ pub struct Version {
 }
 
 // Document 01 calls it a batch.
-#[derive(Drop)]
+#[derive(Clone, Copy)]
 pub struct Job {
     pub ready: u16,
     pub due: u16,
@@ -35,7 +35,7 @@ impl Job {
 }
 
 // The jobs of a week, in list order: the first `count` of the array.
-#[derive(Drop)]
+#[derive(Clone, Copy)]
 pub struct JobList {
     pub count: usize,
     pub jobs: [Job; JobList::MAX_JOBS],

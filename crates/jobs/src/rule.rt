@@ -7,14 +7,14 @@ ghost use Rattle.jobs.specs.Contract.{Names, stretched};
 use crate::model::{Job, JobList, Version};
 
 // The minutes that the rule keeps for a job: from start to end, end not counted.
-#[derive(Drop)]
+#[derive(Clone, Copy)]
 pub struct Stretch {
     pub start: u16,
     pub end: u16,
 }
 
 // The rule's answer for a choice: 0 and a stretch for each job in list order, or the position where it fails.
-#[derive(Drop)]
+#[derive(Clone, Copy)]
 pub struct Stretched {
     pub failing: usize,
     pub stretches: [Stretch; JobList::MAX_JOBS],

@@ -15,7 +15,7 @@ use text::put::{put, put_decimal};
 // count, and stands for as many bytes.
 const MAX_SHOWN: usize = 6 * MAX_TABLE + 1;
 
-#[derive(Drop)]
+#[derive(Clone, Copy)]
 pub struct ShownText {
     pub bytes: [u8; MAX_SHOWN],
     pub len: usize,

@@ -10,7 +10,7 @@ use week::record::Week;
 use week::refusal::Refusal;
 
 // Check's answer: for each batch, in list order, the stretch that the rule gives it, and the total; or the refusal.
-#[derive(Drop)]
+#[derive(Clone, Copy)]
 pub struct Checked {
     pub refusal: Refusal,
     pub total: u32,

@@ -16,7 +16,7 @@ use week::refusal::Refusal;
 pub const MAX_PICKS: usize = Week::MAX_BATCHES * (Week::MAX_MINUTES as usize + 1);
 
 // Choose's answer: for each batch, in list order, its recipe, and the total; or the refusal.
-#[derive(Drop)]
+#[derive(Clone, Copy)]
 pub struct Plan {
     pub refusal: Refusal,
     pub total: u32,

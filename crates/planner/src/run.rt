@@ -17,7 +17,7 @@ use week::record::Week;
 use week::refusal::Refusal;
 
 // What became of one batch. Run's answer holds one for each place of the list.
-#[derive(Drop)]
+#[derive(Clone, Copy)]
 pub struct BatchRun {
     pub outcome: Outcome,
 }
@@ -33,7 +33,7 @@ impl BatchRun {
 }
 
 // Run's answer: for each batch, in list order, its outcome; the idle minutes and the changes; or the refusal.
-#[derive(Drop)]
+#[derive(Clone, Copy)]
 pub struct WeekRun {
     pub refusal: Refusal,
     pub idle: u16,

@@ -16,7 +16,7 @@ use sheet::read::read;
 use text::line::refusal_line;
 
 // A report: its text, in an array that is 0 beyond it, and how many bytes the text has.
-#[derive(Drop)]
+#[derive(Clone, Copy)]
 pub struct ReportText {
     pub bytes: [u8; MAX_TEXT],
     pub len: usize,

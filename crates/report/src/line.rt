@@ -17,7 +17,7 @@ pub(crate) const MAX_TEXT: usize = WEEK_WIDTH + TOTAL_WIDTH + Week::MAX_BATCHES 
 
 // What the line of a batch says. Document 01: "A batch line is number, recipe, cost as it counts in the rule, start and end of
 // stretch, finish (0 if set aside)."
-#[derive(Drop)]
+#[derive(Clone, Copy)]
 pub(crate) struct BatchLine {
     pub number: u16,
     pub recipe: u8,

@@ -7,7 +7,7 @@ ghost use Rattle.select.specs.Contract.{Readable, best_choice};
 use jobs::model::JobList;
 
 // The best choice, in list order; all 0 where there is none.
-#[derive(Drop)]
+#[derive(Clone, Copy)]
 pub struct BestChoice {
     pub exists: bool,
     pub choice: [u8; JobList::MAX_JOBS],

@@ -5,7 +5,7 @@ ghost use Rattle.sheet.specs.Frame.{is_week, is_batch, frame_of};
 use crate::hex::byte_at;
 use crate::line::is_hex_line;
 
-#[derive(Drop)]
+#[derive(Clone, Copy)]
 pub(crate) enum Frame {
     Week,
     Batch,

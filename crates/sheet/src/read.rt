@@ -12,7 +12,7 @@ use week::refusal::Refusal;
 pub const MAX_BYTES: usize = 4096;
 
 // The answer: the list of the sheet; or the refusal.
-#[derive(Drop)]
+#[derive(Clone, Copy)]
 pub struct Reading {
     pub refusal: Refusal,
     pub week: Week,

@@ -5,13 +5,13 @@ ghost use Rattle.week.specs.Record.{max_batches, empty_batch, empty_week, ready_
 use jobs::model::{Job, JobList};
 
 // Minutes on the station, and a worth.
-#[derive(Drop)]
+#[derive(Clone, Copy)]
 pub struct Recipe {
     pub cost: u16,
     pub worth: u16,
 }
 
-#[derive(Drop)]
+#[derive(Clone, Copy)]
 pub struct Batch {
     pub number: u16,
     pub arrival: u16,
@@ -50,7 +50,7 @@ impl Batch {
 }
 
 // A week's list: its first `count` batches, in list order.
-#[derive(Drop)]
+#[derive(Clone, Copy)]
 pub struct Week {
     pub opening: u16,
     pub closing: u16,

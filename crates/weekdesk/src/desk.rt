@@ -5,7 +5,7 @@ use planner::choose::MAX_PICKS;
 use week::record::Week;
 use words::line::Line;
 
-#[derive(Drop)]
+#[derive(Clone, Copy)]
 pub(crate) struct Desk {
     // The list.
     pub draft: Draft,

@@ -11,7 +11,7 @@ pub const MAX_LINE: usize = 4096;
 const HELD: usize = MAX_LINE + 1;
 
 // The first bytes of a line, as far as they have come.
-#[derive(Drop)]
+#[derive(Clone, Copy)]
 pub struct Line {
     pub bytes: [u8; HELD],
     pub len: usize,
@@ -29,7 +29,7 @@ impl Line {
 }
 
 // A line after more of it has come, where the next one starts, and whether this one has ended.
-#[derive(Drop)]
+#[derive(Clone, Copy)]
 pub struct Extension {
     pub line: Line,
     pub next: usize,

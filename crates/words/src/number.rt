@@ -8,7 +8,7 @@ const MAX_DIGITS: usize = 5;
 const MAX_NUMBER: u32 = 65535;
 
 // What a word is: a number, or none.
-#[derive(Drop)]
+#[derive(Clone, Copy)]
 pub enum Number {
     Value(u16),
     NotOne,

@@ -10,7 +10,7 @@ use crate::word::next_word;
 pub const MAX_KEPT: usize = 255;
 
 // Numbers: how many there are, and the first of them. Where a word is none, there are no numbers.
-#[derive(Drop)]
+#[derive(Clone, Copy)]
 pub struct Numbers {
     pub valid: bool,
     pub count: usize,

@@ -5,7 +5,7 @@ ghost use Rattle.words.specs.Contract.{WordStart, WordEnd, NextWord};
 const SPACE: u8 = b' ';
 
 // Where a word starts, and where it ends; both the line's end where there is none.
-#[derive(Drop)]
+#[derive(Clone, Copy)]
 pub struct Word {
     pub start: usize,
     pub end: usize,

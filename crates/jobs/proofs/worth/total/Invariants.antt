@@ -1,0 +1,10 @@
+-- `total` meets its contract. The loop's invariant is that of the sum; the measure is how many jobs are left.
+use Prim.Native.Nat.{◌-◌}
+use Rattle.jobs.proofs.Totals.{Totalling}
+use Rattle.jobs.proofs.worth.total.Given as goal
+
+abbrev pub invariant-loop-i : goal.invariant-loop-i
+invariant-loop-i l = Totalling l.jobs l.choice l.n l.sum l.i
+
+abbrev pub decreases-loop-i : goal.decreases-loop-i
+decreases-loop-i l = l.n - l.i
