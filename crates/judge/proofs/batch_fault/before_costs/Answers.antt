@@ -1,0 +1,54 @@
+-- `before_costs` answers the first of 4 to 6: each return has the tests that its conditions ask.
+use native.Mathlib.Omega.{arith}
+use borrow.Author.Tests.{eq-eqb, ne_eqb, le-leb, lt-leb, lt-ltb, le-ltb}
+use Rattle.week.specs.Record.{max_recipes}
+use Rattle.week.specs.Refusal.{refused_if, first_of, or_else}
+use Rattle.judge.proofs.batch_fault.before_costs.Goals.{then-b-eq0-via-then-b-eq0, then-b-eq0-via-else-b-eq0+then-b-gt-MAX_RECIPES}
+use Rattle.judge.proofs.batch_fault.before_costs.Goals as goal
+
+pub returns-then-b-eq0 : goal.returns-then-b-eq0
+unfolding first_of refused_if or_else
+returns-then-b-eq0 c =
+    let b = c.args.b in
+    elim c.then-b-eq0.branch [
+      | then-b-eq0-via-then-b-eq0 w ↦ simp (c.at.ensures, eq-eqb b.count 0 w.if-b-eq0.true)
+      | then-b-eq0-via-else-b-eq0+then-b-gt-MAX_RECIPES w ↦
+          simp (c.at.ensures, ne_eqb b.count 0 w.if-b-eq0.false, lt-ltb max_recipes b.count w.if-b-gt-MAX_RECIPES.true)
+    ]
+
+pub returns-then-b : goal.returns-then-b
+unfolding first_of refused_if or_else
+returns-then-b c =
+    let b = c.args.b in
+    simp (
+      c.at-then-b.ensures,
+      ne_eqb b.count 0 (omega arith),
+      le-ltb max_recipes b.count c.if-b-gt-MAX_RECIPES.false,
+      le-leb b.due b.arrival (omega arith),
+    )
+
+pub returns-then-closing-b : goal.returns-then-closing-b
+unfolding first_of refused_if or_else
+returns-then-closing-b c =
+    let a = c.args in
+    let b = a.b in
+    simp (
+      c.at-then-closing-b.ensures,
+      ne_eqb b.count 0 (omega arith),
+      le-ltb max_recipes b.count c.if-b-gt-MAX_RECIPES.false,
+      lt-leb b.due b.arrival (omega arith),
+      le-leb a.closing b.arrival (omega arith),
+    )
+
+pub returns : goal.returns
+unfolding first_of refused_if or_else
+returns c =
+    let a = c.args in
+    let b = a.b in
+    simp (
+      c.none.ensures,
+      ne_eqb b.count 0 (omega arith),
+      le-ltb max_recipes b.count c.if-b-gt-MAX_RECIPES.false,
+      lt-leb b.due b.arrival (omega arith),
+      lt-leb a.closing b.arrival (omega arith),
+    )

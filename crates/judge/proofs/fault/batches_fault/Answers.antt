@@ -1,0 +1,100 @@
+use Prim.Native.Nat.{ℕ, ◌+◌}
+use native.Mathlib.Numerals.{add-one}
+use native.Mathlib.Omega.{arith}
+use mathlib.Core.Path.{◌≡◌, refl, sym, ◌∙◌}
+use borrow.Author.Rules.{rules}
+use borrow.Author.Tests.{lt-ltb, le-ltb, eq-eqb, ne_eqb}
+use Rattle.week.specs.declared.record.Week.{Week}
+use Rattle.week.specs.declared.refusal.Refusal.{Refusal}
+use Rattle.week.specs.Record.{batch_at}
+use Rattle.week.specs.Refusal.{refused, refused_if, first_of}
+use Rattle.judge.specs.BatchFault.{before_costs, cost_fault}
+use Rattle.judge.specs.Fault.{batch_faults}
+use Rattle.week.proofs.First.{number_of_lem, search_found, search_on, search_over}
+use Rattle.week.proofs.Passes.{first_of_passes}
+use Rattle.judge.proofs.WellFormed.{count_passes}
+use Rattle.judge.proofs.Walk.{walk_start, walk_refused, walk_on, walk_over, faults_before, faults_costs, faults_later}
+use Rattle.judge.proofs.fault.batches_fault.Goals.{then-q-r-via-then-q-r, then-q-r-via-else-q-r+then-q-eq0}
+use Rattle.judge.proofs.fault.batches_fault.Goals.{After-after_costs-later, Else-early-ne0, Else-n-i}
+use Rattle.judge.proofs.fault.batches_fault.Goals as goal
+
+-- the places that a later one looks back to: the batch that the walk has come to, its list and its index
+abbrev batch : Else-early-ne0 → Else-n-i
+batch c = c.before.before.before.before
+
+abbrev week_of : Else-n-i → Week
+week_of c = c.args.week
+
+abbrev index_of : Else-n-i → ℕ
+index_of c = c.batches.i
+
+-- 4 to 6 pass
+early-passes : (c : Else-early-ne0) →
+    let one = batch c in
+    (first_of (before_costs (week_of one).closing (batch_at (week_of one) (index_of one)))).number ≡ 0
+early-passes c = number_of_lem (sym c.before_costs-early.ensures) ∙ c.if-early-ne0.false
+
+-- 4 to 7 pass: `after_costs` decides
+at-later : (c : After-after_costs-later) →
+    let one = batch c.before.before.before in
+    c.after_costs-later.result ≡ first_of (batch_faults (week_of one) (index_of one))
+at-later c =
+    faults_later (batch c.before.before.before).before.batches.invariant (early-passes c.before.before.before)
+    (number_of_lem (sym (search_over _ _ _ c.loop-k.invariant.3 c.loop-k-test.false))) c.after_costs-later.ensures
+
+pub batches-init : goal.batches-init
+batches-init c = walk_start _ _
+
+pub loop-k-init : goal.loop-k-init
+loop-k-init c =
+    let one = batch c in
+    let counted = (count_passes (batch_at (week_of one) (index_of one))).0 ((first_of_passes _).0 (early-passes c)).0 in
+    (search rules, counted.0, counted.1, refl)
+
+pub after_costs-later-requires : goal.after_costs-later-requires
+after_costs-later-requires c = (search rules, c.loop-k.invariant.2)
+
+pub returns-then-n-i : goal.returns-then-n-i
+returns-then-n-i c = c.none.ensures ∙ walk_over c.batches.invariant c.if-n-i.true
+
+pub returns-then-early-ne0 : goal.returns-then-early-ne0
+returns-then-early-ne0 c =
+    let refuses = c.if-early-ne0.true in
+    walk_refused c.batches.invariant c.if-n-i.false
+    (faults_before (week_of c.before.before.before.before.before) (index_of c.before.before.before.before.before) c.before_costs-early.ensures refuses) refuses c.at.ensures
+
+pub returns-then-q-r : goal.returns-then-q-r
+unfolding cost_fault refused_if
+returns-then-q-r c =
+    let passed : Else-early-ne0 = c.before.before.before.before.before.before.before.before in
+    let one = batch passed in
+    let fault : Refusal = refused 7 0 (c.loop-k.k + 1) in
+    let refuses : fault.number ≡ 0 → ⊥ = λ z. omega arith in
+    let found =
+    search_found _ _ _ c.loop-k.invariant.3 {r = fault} c.loop-k-test.true
+    (elim c.then-q-r.branch [
+      | then-q-r-via-then-q-r w ↦ simp (add-one, lt-ltb _ _ w.if-q-r.true)
+      | then-q-r-via-else-q-r+then-q-eq0 w ↦ simp (add-one, le-ltb _ _ w.if-q-r.false, eq-eqb _ _ w.if-q-eq0.true)
+    ])
+    refuses
+    in
+    walk_refused c.batches.invariant c.if-n-i.false
+    (faults_costs (week_of one) (index_of one) (early-passes passed) found refuses) refuses c.at-then-q-r.ensures
+
+pub loop-k-preserved : goal.loop-k-preserved
+unfolding cost_fault refused_if
+loop-k-preserved c = (
+  omega arith,
+  omega arith,
+  c.loop-k.invariant.2,
+  search_on _ _ _ c.loop-k.invariant.3 (omega arith) (simp (le-ltb _ _ c.if-q-r.false, ne_eqb _ _ c.if-q-eq0.false)),
+)
+
+pub returns-then-later-ne0 : goal.returns-then-later-ne0
+returns-then-later-ne0 c =
+    walk_refused c.batches.invariant c.if-n-i.false (at-later c.before.before.before) c.if-later-ne0.true c.at-then-later-ne0.ensures
+
+pub batches-preserved : goal.batches-preserved
+batches-preserved c =
+    walk_on c.batches.invariant c.if-n-i.false (omega arith)
+    (number_of_lem (sym (at-later c.before.before)) ∙ c.if-later-ne0.false) refl refl
