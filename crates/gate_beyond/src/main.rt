@@ -5,7 +5,7 @@
 ghost use Rattle.io.specs.Counts.{IsPrefixLen};
 
 use answer::operation::{AnswerText, check_text, choose_text, run_text};
-use libc::STDOUT_FILENO;
+use std::io;
 use week::record::{Batch, Recipe, Week};
 
 // Refused by 4, 5 and 9 if it counted.
@@ -52,19 +52,19 @@ fn case_w() -> Week {
     week
 }
 
-fn say(text: AnswerText)
+fn say(rt: &impl Print, text: AnswerText) -> io::Result<()>
     requires { IsPrefixLen text.len text.bytes }
 {
     let bytes = text.bytes;
     let len = text.len;
-    io::write_all(STDOUT_FILENO, &bytes[0..len]);
+    rt.write_all(&bytes[0..len])
 }
 
-fn main() {
+fn main(rt: HostRuntime) -> io::Result<()> {
     let week = case_w();
     let mut table = [0; 303];
     let mut log = [0; 100];
-    say(choose_text(week, &mut table));
-    say(check_text(week, b"\x02\x01\x01"));
-    say(run_text(week, b"\x02\x01\x01", &mut log));
+    say(&rt, choose_text(week, &mut table))?;
+    say(&rt, check_text(week, b"\x02\x01\x01"))?;
+    say(&rt, run_text(week, b"\x02\x01\x01", &mut log))
 }

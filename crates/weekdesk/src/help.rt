@@ -1,10 +1,7 @@
 // What `help` answers.
-use libc::STDOUT_FILENO;
-
 // Each command in a line.
-pub(crate) fn write_help() -> bool {
-    io::write_all(
-        STDOUT_FILENO,
+pub(crate) fn write_help(rt: &impl Print) -> bool {
+    rt.write_all(
         b"week T C: a new list, of no batches, from the opening minute T to the closing minute C
 batch NUMBER R D COST WORTH COST WORTH ..: one batch more, arriving at R and due at D, with its recipes
 table SIZE V: a picks table of SIZE bytes, each V, or 0 where V is left out
@@ -24,4 +21,5 @@ hold: the book now holds the list written down, as it stands
 help: these lines
 ",
     )
+    .is_ok()
 }

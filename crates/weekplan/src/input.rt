@@ -1,7 +1,7 @@
 // Standard input, up to a number of bytes.
 ghost use Rattle.io.specs.Counts.{IsPrefixLen};
 
-use libc::STDIN_FILENO;
+use std::io::Read;
 
 #[derive(Clone, Copy)]
 pub(crate) struct Input {
@@ -12,21 +12,17 @@ pub(crate) struct Input {
 }
 
 // Reads until the input ends or there is no more room.
-pub(crate) fn read_sheet(sheet: &mut [u8]) -> Input
+pub(crate) fn read_sheet<R: Read>(input: &mut R, sheet: &mut [u8]) -> Input
     ensures { IsPrefixLen result.len sheet.new }
 {
     let mut len = 0;
     while len < sheet.len() {
         let part = &mut sheet[len..];
-        let got = libc::read(STDIN_FILENO, part);
-        if got < 0 {
-            return Input { len, failed: true };
+        match input.read(part) {
+            Ok(0) => break,
+            Ok(more) => len += more,
+            Err(_) => return Input { len, failed: true },
         }
-        let more = io::count(got, part);
-        if more == 0 {
-            break;
-        }
-        len += more;
     }
     Input { len, failed: false }
 }
