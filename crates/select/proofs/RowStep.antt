@@ -12,8 +12,8 @@ use Rattle.arrays.proofs.Cases.{cond_both}
 use Rattle.arrays.proofs.Patches.{patched_all}
 use Rattle.jobs.specs.declared.model.Version.{Version}
 use Rattle.jobs.specs.declared.model.Job.{Job}
-use Rattle.jobs.specs.Model.{version_of, minutes_of}
-use Rattle.select.specs.Word.{word_of, word_limit}
+use Rattle.jobs.specs.Model.{max_versions, version_of, minutes_of}
+use Rattle.select.specs.Word.{max_worth, word_of, word_limit}
 use Rattle.select.specs.Row.{offered, first_offer, shifted, due_offer, Taken}
 use Rattle.select.proofs.OfferAnswers.{due_fails}
 use Rattle.select.proofs.Offers.{offered_low, offered_level, offered_before, offered_from, begins_high, offer_taken}
@@ -124,8 +124,14 @@ module _
 
       -- by what the functions answer
       module _ {start : ℕ} (begins : start ≡ first) where
-        pub first_high : start < length scores → minutes_of v ≤ start
+        first_high : start < length scores → minutes_of v ≤ start
         first_high = rw begins (begins_high j (k + 1) t scores is job.ready job.starts)
+
+        -- what `offer` and `due_offer` ask of the version
+        pub version_asked :
+            (v.worth ≤ max_worth) × (1 ≤ k + 1) × (k + 1 ≤ max_versions) × (start < length scores → minutes_of v ≤ start)
+        version_asked =
+            (rw is (job.packable (k + 1) (omega arith) (omega arith)), omega arith, omega (arith, job.few), first_high)
 
         pub due_small : {x : ℕ} → x ≡ due_offer v (k + 1) start e scores → x < word_limit
         due_small answered = rw (answered, begins) (limited job due_low)

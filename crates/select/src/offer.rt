@@ -11,8 +11,8 @@ use jobs::model::{Job, Version};
 
 // A version of word w at the entries from `first` up to `end`, not counted, where it starts `cost` minutes before each.
 fn shift(first: usize, end: usize, cost: usize, w: u32, scores: &[u32], words: &mut [u32])
-    requires cost_le_first { (first < end → cost ≤ first) × (end ≤ length scores.now) × (end ≤ length words.old) × (w ≤ max_word) }
-    requires by_index { ((m : ℕ) → Low (get_or scores.now m 0)) × ((m : ℕ) → get_or words.old m 0 < word_limit) }
+    requires in_range { (first < end → cost ≤ first) × (end ≤ length scores.now) × (end ≤ length words.old) × (w ≤ max_word) }
+    requires low { ((m : ℕ) → Low (get_or scores.now m 0)) × ((m : ℕ) → get_or words.old m 0 < word_limit) }
     ensures { Taken (shifted scores.now cost w) first end words.old words.new }
 {
     for m in first..end {
@@ -51,9 +51,9 @@ pub(crate) fn first_offer(j: Job, v: Version, opening: u16, from: usize, width: 
 
 // Version k, from its first entry up to that of the due minute; where it is set aside, up to the row's end.
 pub(crate) fn offer(v: Version, k: u8, first: usize, due: usize, scores: &[u32], words: &mut [u32])
-    requires worth_le_max_worth { (v.worth ≤ max_worth) × (1 ≤ k) × (k ≤ max_versions) × (first < length scores.now → minutes_of v ≤ first) }
-    requires words_len { (length words.old ≡ length scores.now) × (due ≤ length scores.now) }
-    requires by_index { ((m : ℕ) → Low (get_or scores.now m 0)) × ((m : ℕ) → get_or words.old m 0 < word_limit) }
+    requires version { (v.worth ≤ max_worth) × (1 ≤ k) × (k ≤ max_versions) × (first < length scores.now → minutes_of v ≤ first) }
+    requires sizes { (length words.old ≡ length scores.now) × (due ≤ length scores.now) }
+    requires low { ((m : ℕ) → Low (get_or scores.now m 0)) × ((m : ℕ) → get_or words.old m 0 < word_limit) }
     ensures { Taken (shifted scores.now (minutes_of v) (word_of v.worth k))
         first (cond v.read due (length scores.now)) words.old words.new }
 {
@@ -67,8 +67,8 @@ pub(crate) fn offer(v: Version, k: u8, first: usize, due: usize, scores: &[u32],
 
 // What version k offers from the due minute on; 0 where it is set aside or comes too late, or the row ends before.
 pub(crate) fn due_offer(v: Version, k: u8, first: usize, due: usize, scores: &[u32]) -> u32
-    requires worth_le_max_worth { (v.worth ≤ max_worth) × (1 ≤ k) × (k ≤ max_versions) × (first < length scores.now → minutes_of v ≤ first) }
-    requires by_index { (m : ℕ) → Low (get_or scores.now m 0) }
+    requires version { (v.worth ≤ max_worth) × (1 ≤ k) × (k ≤ max_versions) × (first < length scores.now → minutes_of v ≤ first) }
+    requires low { (m : ℕ) → Low (get_or scores.now m 0) }
     ensures { result ≡ due_offer v k first due scores.now }
 {
     if !v.read || due < first || scores.len() <= due {

@@ -50,9 +50,9 @@ pub(crate) fn fill_row(
     words: &mut [u32],
     picks: &mut [u8],
 ) -> usize
-    requires count_le_max_versions { (j.count ≤ max_versions) × (opening ≤ j.ready) × Packable j }
-    requires words_len { (length words.old ≡ length scores.old) × (length picks.old ≡ length scores.old) }
-    requires scores_len_bound { (length scores.old ≤ row_length) × Starts from scores.old × ((m : ℕ) → Low (get_or scores.old m 0)) }
+    requires job { (j.count ≤ max_versions) × (opening ≤ j.ready) × Packable j }
+    requires sizes { (length words.old ≡ length scores.old) × (length picks.old ≡ length scores.old) }
+    requires scored { (length scores.old ≤ row_length) × Starts from scores.old × ((m : ℕ) → Low (get_or scores.old m 0)) }
     ensures { FilledRow j opening (length scores.old)
         scores.old result scores.new picks.new }
 {

@@ -16,7 +16,7 @@ const ROW: usize = (JobList::MAX_SPAN as usize) + 1;
 // bits hold every word.
 pub fn fill(list: JobList, opening: u16, width: usize, table: &mut [u8])
     requires fillable { Fillable list opening width (length table.old) }
-    requires by_index { (i : ℕ) → i < list.count → Packable (get_or list.jobs i no_job) }
+    requires packable { (i : ℕ) → i < list.count → Packable (get_or list.jobs i no_job) }
     ensures { table.new ≡ filled (jobs_of list) opening width table.old }
 {
     let mut scores = [0u32; ROW];

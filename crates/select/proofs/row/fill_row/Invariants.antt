@@ -1,0 +1,7 @@
+-- `fill_row` meets its contract. The loop's invariant is that of a row; the measure is how many versions are left.
+use Rattle.select.proofs.Rows.{Ready, Row}
+use Rattle.select.proofs.row.fill_row.Given as goal
+
+abbrev pub invariant-loop-i : goal.invariant-loop-i
+invariant-loop-i l =
+    Ready l.j l.opening l.due l.from l.scores × Row l.j l.opening l.due l.scores l.words l.level l.next l.i

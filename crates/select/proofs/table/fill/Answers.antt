@@ -1,0 +1,26 @@
+use native.Mathlib.Omega.{arith}
+use Prim.Native.Nat.{◌+◌, ◌-◌, ◌*◌}
+use mathlib.Core.Path.{sym, ◌∙◌}
+use lib.ListN.{drop}
+use lib.Seq.{length-take-le}
+use Rattle.select.proofs.Tables.{filling_start, filling_step, filling_low}
+use Rattle.select.proofs.table.fill.Goals as goal
+
+pub loop-i-init : goal.loop-i-init
+loop-i-init c =
+    let pre = c.requires in
+    let wide = pre.fillable.wide in
+    filling_start pre.fillable pre.packable (rw (length-take-le _ _ wide) at c.set_all.ensures) wide _
+
+pub fill_row-from-requires-clause-scored : goal.fill_row-from-requires-clause-scored
+fill_row-from-requires-clause-scored c =
+    let inv = c.loop-i.invariant in
+    (rw (sym inv.after.size) at inv.fillable.wide, inv.after.starts, filling_low inv (omega arith))
+
+pub loop-i-preserved : goal.loop-i-preserved
+loop-i-preserved c =
+    let inv = c.loop-i.invariant in
+    let at = c.loop-i.i * c.args.width in
+    filling_step inv (omega arith) (at + c.args.width - at) (omega arith) (rw inv.after.size at c.fill_row-from.ensures)
+    _ (c.fill_row-from.auto.words ∙ length-take-le _ _ inv.room)
+    _ (drop c.args.width c.loop-i.words)
