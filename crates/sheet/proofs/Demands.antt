@@ -39,8 +39,8 @@ pub read_refuses : (sheet : List ℕ) → ((read_answer sheet).refusal.number �
     read_answer sheet ≡ refused_reading (read_fault sheet)
 read_refuses sheet n = (read_answers sheet).refused refl (refuses_too (reading_refusal sheet) n)
 
--- Demand 1: "one numbered refusal, which says which batch is at fault where a batch is". 01: "The number answered is the first in this order
--- whose condition holds": it holds of the very line, or batch and recipe, that are named, and none that stands before it does.
+-- Demand 1: "one numbered refusal, which says which batch is at fault where a batch is". 01: "The number answered is the first in
+-- this order whose condition holds": it holds of the very line, or batch and recipe, that are named, and none that stands before it does.
 pub read_at_fault : (sheet : List ℕ) →
     AtFault (ReadHolds sheet) read_numbers (sheet_week sheet).count (length (lines_of sheet)) (read_answer sheet).refusal
 read_at_fault sheet = rw (reading_refusal sheet) (at_fault (read_holds sheet) (sheet_naming sheet))
