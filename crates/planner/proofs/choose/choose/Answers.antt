@@ -1,0 +1,123 @@
+-- `choose` meets its contract: each return is one of the cases of `Choosing`, and what the buyer asks follows.
+use Prim.Native.Nat.{ℕ, ◌*◌, ◌≤◌}
+use mathlib.Core.Path.{◌≡◌, sym, ap, ap₂, ◌∙◌}
+use mathlib.Core.Logic.{◌↔◌}
+use mathlib.Core.List.{List}
+use lib.ListN.{length}
+use borrow.Author.Tests.{not-true, not-false}
+use Rattle.jobs.specs.declared.model.JobList.{JobList}
+use Rattle.jobs.specs.Model.{jobs_of}
+use Rattle.jobs.specs.Best.{best}
+use Rattle.select.specs.Table.{filled}
+use Rattle.select.specs.declared.choice.BestChoice.{BestChoice}
+use Rattle.select.specs.Contract.{best_choice}
+use Rattle.select.proofs.BestChoices.{choice_none}
+use Rattle.week.specs.declared.record.Week.{Week}
+use Rattle.week.specs.declared.refusal.Refusal.{Refusal}
+use Rattle.judge.specs.Fault.{WellFormed}
+use Rattle.week.proofs.First.{number_of_lem}
+use Rattle.week.proofs.Owned.{worths_fit}
+use Rattle.judge.proofs.Sound.{Sound, sound}
+use Rattle.planner.specs.declared.choose.Plan.{Plan}
+use Rattle.planner.specs.Job.{job_list_of, week_jobs}
+use Rattle.planner.specs.Choose.{week_best, width_of, fill_fault, refused_plan, plan_of, choose_answer, table_after, FillsTable}
+use Rattle.planner.specs.Choose.{PicksTable, BestPlan, SomePlan, NoPlan, LongTable}
+use Rattle.planner.proofs.Jobs.{packable, answerable, fillable}
+use Rattle.planner.proofs.Choosing.{fill_faultless, long_table, plan_refused, plan_passed, table_kept, table_filled}
+use Rattle.planner.proofs.ReadOff.{readable, read_some, read_names, read_answer_lem}
+use Rattle.planner.proofs.Demands.{choose_fills, choose_best, choose_none, choose_plans}
+use Rattle.planner.proofs.choose.choose.Goals as goal
+
+-- what `choose` promises of its plan and of the table after it: the last four follow from the first two
+abbrev Promised : Week → List ℕ → List ℕ → Plan → Type 0
+Promised w before after plan = record {
+  answer : plan ≡ choose_answer w (length before);
+  table : after ≡ table_after w before;
+  picks : FillsTable plan → PicksTable w before after;
+  best : plan.refusal.number ≡ 0 → BestPlan w plan;
+  none : (plan.refusal.number ≡ 14) ↔ (WellFormed w × LongTable w (length before) × NoPlan w);
+  plans : (plan.refusal.number ≡ 0) ↔ (WellFormed w × LongTable w (length before) × SomePlan w);
+}
+
+promised : (w : Week) (table after : List ℕ) (plan : Plan) → plan ≡ choose_answer w (length table) → after ≡ table_after w table →
+    Promised w table after plan
+promised w table after plan answer same = record {
+  answer = answer;
+  table = same;
+  picks = rw (answer, same) (choose_fills w table);
+  best = rw answer (choose_best w (length table));
+  none = rw answer (choose_none w (length table));
+  plans = rw answer (choose_plans w (length table));
+}
+
+-- a refusal that leaves the table as it was
+kept : (w : Week) (table : List ℕ) (plan : Plan) {r : Refusal} → fill_fault w (length table) ≡ r → (r.number ≡ 0 → ⊥) →
+    plan ≡ refused_plan r → Promised w table table plan
+kept w table plan fault other is =
+    promised w table table plan (is ∙ sym (plan_refused w (length table) fault other)) (sym (table_kept w table fault other))
+
+-- where nothing has refused, the list is sound and the table long
+fine : (w : Week) (size : ℕ) → (fill_fault w size).number ≡ 0 → Sound w
+fine w size zero = sound w ((fill_faultless w size).0 zero).0
+
+long : (w : Week) (size : ℕ) → (fill_fault w size).number ≡ 0 → w.count * width_of w ≤ size
+long w size zero = (long_table w size).0 ((fill_faultless w size).0 zero).1
+
+-- what `fill` leaves, over the jobs of the week
+filled_over : (w : Week) (table after : List ℕ) {jobs : JobList} {width : ℕ} → jobs ≡ job_list_of w → width ≡ width_of w →
+    after ≡ filled (jobs_of jobs) w.opening width table → after ≡ filled (week_jobs w) w.opening (width_of w) table
+filled_over w table after jobs width is =
+    is ∙ ap₂ (λ (list : JobList) (width : ℕ). filled (jobs_of list) w.opening width table) jobs width
+
+-- what `read_off` answers, over the jobs of the week
+best_over : (w : Week) (r : BestChoice) {jobs : JobList} → jobs ≡ job_list_of w → r ≡ best_choice (best (jobs_of jobs) w.closing) →
+    r ≡ best_choice (week_best w)
+best_over w r jobs is = is ∙ ap (λ (list : JobList). best_choice (best (jobs_of list) w.closing)) jobs
+
+pub returns-then-fault-ne0 : goal.returns-then-fault-ne0
+returns-then-fault-ne0 c =
+    kept _ _ _ (sym c.fill_fault-fault.ensures) c.if-fault-ne0.true c.refused.ensures
+
+pub fill-requires : goal.fill-requires
+fill-requires c =
+    let zero = sym (number_of_lem c.fill_fault-fault.ensures) ∙ c.if-fault-ne0.false in
+    let worths = worths_fit c.args.week _ c.well_formed.0 in
+    rw (c.jobs_of-jobs.ensures, c.row_width-width.ensures)
+    record { fillable = fillable _ (fine _ _ zero) _ (long _ _ zero); packable = packable _ (fine _ _ zero) worths }
+
+pub read_off-best-requires : goal.read_off-best-requires
+read_off-best-requires c =
+    let zero = sym (number_of_lem c.fill_fault-fault.ensures) ∙ c.if-fault-ne0.false in
+    let after = filled_over c.args.week _ _ c.jobs_of-jobs.ensures c.row_width-width.ensures c.fill.ensures in
+    rw c.row_width-width.ensures (readable _ (fine _ _ zero) _ (long _ _ zero) c.jobs_of-jobs.ensures after)
+
+pub returns-then-not-best : goal.returns-then-not-best
+unfolding plan_of
+returns-then-not-best c =
+    let w = c.args.week in
+    let zero = sym (number_of_lem c.fill_fault-fault.ensures) ∙ c.if-fault-ne0.false in
+    let after = filled_over w _ _ c.jobs_of-jobs.ensures c.row_width-width.ensures c.fill.ensures in
+    let absent =
+    choice_none (week_best w) (best_over w _ c.jobs_of-jobs.ensures c.read_off-best.ensures) (not-true _ c.if-not-best.true)
+    in
+    promised _ _ _ _
+    (c.refused-then-not-best.ensures ∙ ap refused_plan c.at.ensures ∙ sym (plan_passed _ _ zero absent))
+    (after ∙ sym (table_filled _ _ zero))
+
+pub total-requires : goal.total-requires
+total-requires c =
+    let w = c.args.week in
+    let zero = sym (number_of_lem c.fill_fault-fault.ensures) ∙ c.if-fault-ne0.false in
+    let present = read_some w (best_over w _ c.jobs_of-jobs.ensures c.read_off-best.ensures) (not-false _ c.if-not-best.false) in
+    rw c.jobs_of-jobs.ensures
+    (answerable _ (fine _ _ zero) (worths_fit w _ c.well_formed.0) (read_names _ (fine _ _ zero) present))
+
+pub returns : goal.returns
+returns c =
+    let w = c.args.week in
+    let zero = sym (number_of_lem c.fill_fault-fault.ensures) ∙ c.if-fault-ne0.false in
+    let after = filled_over w _ _ c.jobs_of-jobs.ensures c.row_width-width.ensures c.fill.ensures in
+    let present = read_some w (best_over w _ c.jobs_of-jobs.ensures c.read_off-best.ensures) (not-false _ c.if-not-best.false) in
+    promised _ _ _ _
+    (read_answer_lem _ (fine _ _ zero) present _ zero c.none.ensures c.jobs_of-jobs.ensures c.total.ensures)
+    (after ∙ sym (table_filled _ _ zero))
