@@ -8,6 +8,7 @@ use crate::line::line_end;
 use week::refusal::Refusal;
 
 // 16 and 17 of the line at a place, from 1: a week stands first, and nowhere else.
+#[tactic(auto, unfolding(crate::specs::Fault::frame_fault, week::specs::Refusal::refused_if))]
 fn frame_fault(place: usize, frame: Frame) -> Refusal
     ensures { result ≡ frame_fault place frame }
 {

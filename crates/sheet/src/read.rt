@@ -30,6 +30,7 @@ impl Reading {
 }
 
 // Document 01: "Read a sheet, answering a list that passed 1 to 10." The answer on every sequence of bytes.
+#[tactic(auto, using(crate::proofs::Reading::large_refused))]
 pub fn read(sheet: &[u8]) -> Reading
     ensures { result ≡ read_answer sheet.now }
 {

@@ -2,9 +2,8 @@ use Prim.Native.Nat.{ℕ, ◌≤◌}
 use native.Mathlib.Omega.{arith}
 use mathlib.Core.Path.{◌≡◌}
 use mathlib.Core.List.{List}
-use borrow.Author.Rules.{rules}
 use borrow.Author.Tests.{ltb-true, ltb-false}
-use Rattle.arrays.proofs.Stores.{padding_start, padding_step, padding_end}
+use Rattle.arrays.proofs.Stores.{padding_step, padding_end}
 use Rattle.week.specs.declared.record.Batch.{Batch}
 use Rattle.sheet.specs.List.{batch_from}
 use Rattle.sheet.proofs.Frames.{batch-length}
@@ -27,15 +26,6 @@ word_at-requires-3 c = omega (arith, batch-length c.args.line.now c.requires)
 
 pub byte_at-count-requires : goal.byte_at-count-requires
 byte_at-count-requires c = omega (arith, batch-length c.args.line.now c.requires)
-
-pub loop-k-init : goal.loop-k-init
-loop-k-init c = (
-  search rules,
-  search rules,
-  search rules,
-  search rules,
-  rw c.empty-batch.ensures (padding_start _ _ _ _ (omega arith)),
-)
 
 pub word_at-cost-requires : goal.word_at-cost-requires
 word_at-cost-requires c = omega (arith, batch-length c.args.line.now c.requires)

@@ -6,15 +6,12 @@ use Rattle.week.specs.declared.refusal.Refusal.{Refusal}
 use Rattle.week.proofs.First.{number_of_lem}
 use Rattle.sheet.specs.Line.{lines_of}
 use Rattle.sheet.specs.Fault.{lines_fault}
-use Rattle.sheet.proofs.Reading.{large_refused, lines_refused, list_refused, list_passed}
+use Rattle.sheet.proofs.Reading.{lines_refused, list_refused, list_passed}
 use Rattle.sheet.proofs.read.read.Goals as goal
 
 -- every line is in its place
 placed : (sheet : List ℕ) {r : Refusal} → r ≡ lines_fault (lines_of sheet) → r.number ≡ 0 → (lines_fault (lines_of sheet)).number ≡ 0
 placed _ e z = number_of_lem (sym e) ∙ z
-
-pub returns-then-sheet-gt-MAX_BYTES : goal.returns-then-sheet-gt-MAX_BYTES
-returns-then-sheet-gt-MAX_BYTES c = c.refused.ensures ∙ sym (large_refused _ c.if-sheet-gt-MAX_BYTES.true c.at.ensures)
 
 pub returns-then-line_fault-ne0 : goal.returns-then-line_fault-ne0
 returns-then-line_fault-ne0 c =
