@@ -1,4 +1,5 @@
 use Prim.Native.Nat.{ℕ, ◌+◌, ◌<◌}
+use native.Mathlib.Omega.{arith}
 use mathlib.Core.Path.{◌≡◌, refl, sym, ap, ◌∙◌}
 use mathlib.Core.List.{List}
 use lib.ListN.{length, get_or}
@@ -22,7 +23,7 @@ returns-then-b-eq-LINE_FEED c = sym (extended_feed _ _ _ c.loop-i-test.true c.if
 
 pub loop-i-preserved-then-len-lt-HELD : goal.loop-i-preserved-then-len-lt-HELD
 loop-i-preserved-then-len-lt-HELD c =
-    ap (λ (line : Line). extended_by line c.args.piece.now (c.loop-i.i + 1)) (sym (byte_held _ _ _ c.if-len-lt-HELD.true))
+    ap (λ (line : Line). extended_by line c.args.piece.now (c.loop-i.i + 1)) (sym (byte_held _ c.loop-i.len _ (omega arith)))
     ∙ one_more _ _ _ _ _ c.loop-i-test.true c.if-b-eq-LINE_FEED.false c.loop-i.invariant
 
 pub loop-i-preserved : goal.loop-i-preserved
