@@ -7,7 +7,8 @@ loop-start-init c = showing_start _ _
 
 pub put_run-end-requires : goal.put_run-end-requires
 put_run-end-requires c =
-    showing_room c.loop-start.invariant c.requires.0 (omega (arith, c.type_inv.bytes c.loop-start.start)) c.run_end-next.ensures c.requires.1
+    showing_room c.loop-start.invariant c.requires.0 (omega (arith, c.type_inv.bytes c.loop-start.start)) c.run_end-next.ensures
+    c.requires.1
 
 pub loop-start-preserved : goal.loop-start-preserved
 loop-start-preserved c =

@@ -11,12 +11,12 @@ put_runs-len-requires c = (rw length-take (omega arith), empty-length c.empty_te
 
 pub returns-then-lent-gt-MAX_TABLE : goal.returns-then-lent-gt-MAX_TABLE
 returns-then-lent-gt-MAX_TABLE c =
-    let is = shown c.args.lent.now c.empty_text-bytes.ensures c.put_runs-len.ensures in record { answer = is.0; fits = is.1 }
+    let is = shown c.args.lent.now c.empty_text-bytes.ensures c.put_runs-len.ensures in
+    record { answer = is.0; fits = is.1 }
 
 pub returns : goal.returns
 returns c =
     let lent = c.args.lent.now in
-    let is =
-    shown lent c.empty_text-bytes.ensures
-    (rw (take_all max_table lent c.if-lent-gt-MAX_TABLE.false) c.put_runs-len-2.ensures) in
+    let made = c.empty_text-bytes.ensures in
+    let is = shown lent made (rw (take_all max_table lent c.if-lent-gt-MAX_TABLE.false) c.put_runs-len-2.ensures) in
     record { answer = is.0; fits = is.1 }
