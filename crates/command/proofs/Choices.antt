@@ -57,6 +57,9 @@ module _ (numbers : Numbers) where
   unfolding is_choice
   choice_decided valid short = simp (valid, le-leb _ _ short)
 
+-- what decides whether numbers are a choice
+pub ruleset deciding = (choice_invalid, choice_long, choice_decided, bytes_broken, bytes_on, bytes_over)
+
 -- the loop that copies the first n of an array stands at i
 pub record Copying (values : List ℕ) (n i : ℕ) (recipes : List ℕ) : Type 0 where
   pub within : i ≤ n

@@ -1,5 +1,4 @@
 pub mod Same
-pub mod Names
 pub mod Lending
 pub mod Choices
 pub mod Shows

@@ -6,13 +6,11 @@ use Rattle.arrays.specs.Example.{Example, ◌is◌, same, agree}
 use Rattle.arrays.specs.Made.{padded}
 use Rattle.arrays.specs.Text.{bytes, space}
 use Rattle.week.specs.declared.record.Recipe.{Recipe}
-use Rattle.week.specs.declared.record.Batch.{Batch}
 use Rattle.week.specs.Record.{max_recipes, no_recipe}
 use Rattle.words.specs.Line.{no_line, with_byte, with_bytes}
 use Rattle.words.specs.Word.{joined, parts_of, some_bytes, words_of}
 use Rattle.words.specs.Number.{are_digits, is_number}
 use Rattle.words.specs.Numbers.{max_kept, are_numbers, numbers_of}
-use Rattle.command.specs.declared.command.Choice.{Choice}
 use Rattle.command.specs.declared.command.Kind.{Kind}
 use Rattle.command.specs.declared.command.Kind.TheVariants.{Nothing, Unknown, Week, Batch as OneBatch, Table, Log, Choose, Check}
 use Rattle.command.specs.declared.command.Kind.TheVariants.{Run, ShowTable, ShowLog, List as TheList, Sheet, Open, Add, Withdraw}

@@ -21,6 +21,7 @@ use words::word::next_word;
 const COMMENT: u8 = b'#';
 
 // The command of a name, with what stands after it on the line.
+#[tactic(auto, unfolding(crate::specs::Command::named))]
 fn command_named(name: Name, line: &[u8], at: usize) -> Command
     ensures { result ≡ named name (words_of (drop at line.now)) }
 {

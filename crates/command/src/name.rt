@@ -41,6 +41,7 @@ pub(crate) fn is_same(a: &[u8], b: &[u8]) -> bool
 }
 
 // The name that a word is.
+#[tactic(auto, unfolding(crate::specs::Name::name_of, crate::specs::Name::name_among))]
 pub(crate) fn name_of(word: &[u8]) -> Name
     ensures { result ≡ name_of word.now }
 {

@@ -11,6 +11,7 @@ use words::numbers::{MAX_KEPT, Numbers};
 const MAX_BYTE: u16 = 255;
 
 // A command with so many numbers after its name, and nothing else.
+#[tactic(auto, unfolding(crate::specs::Numbered::exactly_command))]
 pub(crate) fn exactly(n: usize, kind: Kind, numbers: Numbers) -> Command
     ensures { result ≡ exactly_command n kind numbers }
 {
@@ -43,6 +44,7 @@ fn batch_from(numbers: Numbers) -> Batch
 }
 
 // `batch NUMBER R D COST WORTH COST WORTH ..`, `add NUMBER R D COST WORTH ..`
+#[tactic(auto, unfolding(crate::specs::Numbered::batch_command))]
 pub(crate) fn batch_command(kind: Kind, numbers: Numbers) -> Command
     ensures { result ≡ batch_command kind numbers }
 {
@@ -54,6 +56,7 @@ pub(crate) fn batch_command(kind: Kind, numbers: Numbers) -> Command
 
 // Whether the numbers are `SIZE V` or `SIZE`, with a size up to a greatest one and a value that is a byte. A value that is left out is
 // 0, as is a number that is not there.
+#[tactic(auto, unfolding(crate::specs::Numbered::lends_up_to))]
 fn lends(most: usize, numbers: Numbers) -> bool
     ensures { result ≡ lends_up_to most numbers }
 {
@@ -65,6 +68,7 @@ fn lends(most: usize, numbers: Numbers) -> bool
 }
 
 // `table SIZE V`
+#[tactic(auto, unfolding(crate::specs::Numbered::table_command))]
 pub(crate) fn table_command(numbers: Numbers) -> Command
     ensures { result ≡ table_command numbers }
 {
@@ -79,6 +83,7 @@ pub(crate) fn table_command(numbers: Numbers) -> Command
 }
 
 // `log SIZE V`
+#[tactic(auto, unfolding(crate::specs::Numbered::log_command))]
 pub(crate) fn log_command(numbers: Numbers) -> Command
     ensures { result ≡ log_command numbers }
 {
@@ -93,6 +98,7 @@ pub(crate) fn log_command(numbers: Numbers) -> Command
 }
 
 // Whether the numbers are a choice: at most 255, each of them a byte.
+#[tactic(auto, using(crate::proofs::Choices::deciding))]
 fn is_choice(numbers: Numbers) -> bool
     ensures { result ≡ is_choice numbers }
 {
@@ -123,6 +129,7 @@ fn choice_from(numbers: Numbers) -> Choice
 }
 
 // `check K K ..`, `run K K ..`
+#[tactic(auto, unfolding(crate::specs::Numbered::choice_command))]
 pub(crate) fn choice_command(kind: Kind, numbers: Numbers) -> Command
     ensures { result ≡ choice_command kind numbers }
 {

@@ -8,6 +8,7 @@ use crate::name::is_same;
 use words::word::next_word;
 
 // Which of the two a word is.
+#[tactic(auto, unfolding(crate::specs::Show::shown_kind))]
 fn shown_kind(word: &[u8]) -> Kind
     ensures { result ≡ shown_kind word.now }
 {

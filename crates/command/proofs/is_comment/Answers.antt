@@ -6,10 +6,8 @@ use mathlib.Core.Bool.{false}
 use mathlib.Core.List.{List, [], ◌∷◌}
 use lib.ListN.{length, get_or}
 use lib.Dec.{eqb}
-use borrow.Author.Rules.{rules}
 use Rattle.command.specs.Command.{hash, is_comment}
-use Rattle.command.proofs.is_comment.Statement.{statement}
-use Rattle.command.proofs.is_comment.Tie as tie
+use Rattle.command.proofs.is_comment.Goals as goal
 
 none : (line : List ℕ) → length line ≡ 0 → is_comment line ≡ false
 unfolding is_comment
@@ -21,14 +19,8 @@ unfolding is_comment
 first [] some = absurd (omega arith)
 first (b ∷ bs) some = refl
 
-returns : tie.Need-returns
-returns c = sym (none _ c.if1.true)
+pub returns-then-line-eq0 : goal.returns-then-line-eq0
+returns-then-line-eq0 c = sym (none _ c.if-line-eq0.true)
 
-shared-slice-read-result : tie.Need-shared-slice-read-result
-shared-slice-read-result c = search rules
-
-returns-2 : tie.Need-returns-2
-returns-2 c = sym (first _ (omega arith))
-
-pub is-comment-spec : {M : Type 1} → statement M
-is-comment-spec = tie.close (tie.spec returns shared-slice-read-result returns-2)
+pub returns : goal.returns
+returns c = sym (first _ (omega arith))
