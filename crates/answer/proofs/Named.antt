@@ -1,7 +1,8 @@
 -- Words with a number after each, in the order in which they are put into a line.
-use Prim.Native.Nat.{ℕ}
-use mathlib.Core.Path.{◌≡◌, ap}
+use Prim.Native.Nat.{ℕ, ◌+◌}
+use mathlib.Core.Path.{◌≡◌, ap, ◌∙◌}
 use mathlib.Core.List.{List, [], ◌∷◌, ◌++◌, append_assoc, append-nil}
+use lib.ListN.{length, length-append}
 use Rattle.arrays.specs.Text.{bytes, line_feed, space}
 use Rattle.text.specs.Decimal.{decimal}
 use Rattle.text.specs.Line.{spaced, line_of}
@@ -20,6 +21,10 @@ named_fields word n = ap (λ (l : List ℕ). (space ∷ word) ++ l) (append-nil 
 -- a line of one
 pub named_parts : (word : List ℕ) (n : ℕ) → line_of word (decimal n ∷ []) ≡ named word n ++ (line_feed ∷ [])
 named_parts word n = simp (rest_more, rest_none, append_assoc)
+
+-- the bytes of the two
+pub named_size : (word : List ℕ) (n : ℕ) → length (line_of word (decimal n ∷ [])) ≡ length (named word n) + 1
+named_size word n = ap length (named_parts word n) ∙ length-append (named word n) (line_feed ∷ [])
 
 -- and of two
 pub ran_parts : (changes idle : ℕ) →
