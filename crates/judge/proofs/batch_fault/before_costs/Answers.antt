@@ -1,20 +1,19 @@
 -- `before_costs` answers the first of 4 to 6: each return has the tests that its conditions ask.
 use native.Mathlib.Omega.{arith}
+use mathlib.Core.Logic.{⊎_elim}
 use borrow.Author.Tests.{eq-eqb, ne_eqb, le-leb, lt-leb, lt-ltb, le-ltb}
 use Rattle.week.specs.Record.{max_recipes}
 use Rattle.week.specs.Refusal.{refused_if, first_of, or_else}
-use Rattle.judge.proofs.batch_fault.before_costs.Goals.{then-b-eq0-via-then-b-eq0, then-b-eq0-via-else-b-eq0+then-b-gt-MAX_RECIPES}
 use Rattle.judge.proofs.batch_fault.before_costs.Goals as goal
 
 pub returns-then-b-eq0 : goal.returns-then-b-eq0
 unfolding first_of refused_if or_else
 returns-then-b-eq0 c =
     let b = c.args.b in
-    elim c.then-b-eq0.branch [
-      | then-b-eq0-via-then-b-eq0 w ↦ simp (c.at.ensures, eq-eqb b.count 0 w.if-b-eq0.true)
-      | then-b-eq0-via-else-b-eq0+then-b-gt-MAX_RECIPES w ↦
-          simp (c.at.ensures, ne_eqb b.count 0 w.if-b-eq0.false, lt-ltb max_recipes b.count w.if-b-gt-MAX_RECIPES.true)
-    ]
+    ⊎_elim
+    (λ none. simp (c.at.ensures, eq-eqb b.count 0 none))
+    (λ more. simp (c.at.ensures, ne_eqb b.count 0 more.0, lt-ltb max_recipes b.count more.1))
+    c.then-b-eq0.either
 
 pub returns-then-b : goal.returns-then-b
 unfolding first_of refused_if or_else
@@ -23,7 +22,7 @@ returns-then-b c =
     simp (
       c.at-then-b.ensures,
       ne_eqb b.count 0 (omega arith),
-      le-ltb max_recipes b.count c.if-b-gt-MAX_RECIPES.false,
+      le-ltb max_recipes b.count (omega arith),
       le-leb b.due b.arrival (omega arith),
     )
 
@@ -35,7 +34,7 @@ returns-then-closing-b c =
     simp (
       c.at-then-closing-b.ensures,
       ne_eqb b.count 0 (omega arith),
-      le-ltb max_recipes b.count c.if-b-gt-MAX_RECIPES.false,
+      le-ltb max_recipes b.count (omega arith),
       lt-leb b.due b.arrival (omega arith),
       le-leb a.closing b.arrival (omega arith),
     )
@@ -48,7 +47,7 @@ returns c =
     simp (
       c.none.ensures,
       ne_eqb b.count 0 (omega arith),
-      le-ltb max_recipes b.count c.if-b-gt-MAX_RECIPES.false,
+      le-ltb max_recipes b.count (omega arith),
       lt-leb b.due b.arrival (omega arith),
       lt-leb a.closing b.arrival (omega arith),
     )

@@ -1,20 +1,22 @@
-use Prim.Native.Nat.{ℕ, ◌+◌}
+use Prim.Native.Nat.{ℕ, ◌+◌, ◌-◌, ◌<◌, ◌≤◌}
 use native.Mathlib.Numerals.{add-one}
 use native.Mathlib.Omega.{arith}
 use mathlib.Core.Path.{◌≡◌, refl, sym, ◌∙◌}
+use mathlib.Core.Logic.{◌⊎◌, ⊎_elim, inl, inr}
 use borrow.Author.Rules.{rules}
 use borrow.Author.Tests.{lt-ltb, le-ltb, eq-eqb, ne_eqb}
+use Rattle.arrays.proofs.Tests.{or_true}
+use Rattle.week.specs.declared.record.Batch.{Batch}
 use Rattle.week.specs.declared.record.Week.{Week}
 use Rattle.week.specs.declared.refusal.Refusal.{Refusal}
-use Rattle.week.specs.Record.{batch_at}
-use Rattle.week.specs.Refusal.{refused, refused_if, first_of}
+use Rattle.week.specs.Record.{recipe_at, batch_at}
+use Rattle.week.specs.Refusal.{accepted, refused, refused_if, first_of}
 use Rattle.judge.specs.BatchFault.{before_costs, cost_fault}
 use Rattle.judge.specs.Fault.{batch_faults}
 use Rattle.week.proofs.First.{number_of_lem, search_found, search_on, search_over}
 use Rattle.week.proofs.Passes.{first_of_passes}
 use Rattle.judge.proofs.WellFormed.{count_passes}
 use Rattle.judge.proofs.Walk.{walk_start, walk_refused, walk_on, walk_over, faults_before, faults_costs, faults_later}
-use Rattle.judge.proofs.fault.batches_fault.Goals.{then-q-r-via-then-q-r, then-q-r-via-else-q-r+then-q-eq0}
 use Rattle.judge.proofs.fault.batches_fault.Goals.{After-after_costs-later, Else-early-ne0, Else-n-i}
 use Rattle.judge.proofs.fault.batches_fault.Goals as goal
 
@@ -42,6 +44,18 @@ at-later c =
     faults_later (batch c.before.before.before).before.batches.invariant (early-passes c.before.before.before)
     (number_of_lem (sym (search_over _ _ _ c.loop-k.invariant.3 c.loop-k-test.false))) c.after_costs-later.ensures
 
+-- 7 refuses a recipe that costs more than the one before, or follows one of cost 0, and no other
+module _ (b : Batch) (k : ℕ) where
+  costs_rise : ((recipe_at b (k - 1)).cost < (recipe_at b k).cost) ⊎ ((recipe_at b (k - 1)).cost ≡ 0) →
+      cost_fault b k ≡ refused 7 0 (k + 1)
+  unfolding cost_fault refused_if
+  costs_rise =
+      ⊎_elim (λ rises. simp (add-one, lt-ltb _ _ rises)) (λ none. simp (add-one, eq-eqb _ _ none, or_true))
+
+  costs_fall : (recipe_at b k).cost ≤ (recipe_at b (k - 1)).cost → ((recipe_at b (k - 1)).cost ≡ 0 → ⊥) → cost_fault b k ≡ accepted
+  unfolding cost_fault refused_if
+  costs_fall falls some = simp (le-ltb _ _ falls, ne_eqb _ _ some)
+
 pub batches-init : goal.batches-init
 batches-init c = walk_start _ _
 
@@ -64,7 +78,6 @@ returns-then-early-ne0 c =
     (faults_before (week_of c.before.before.before.before.before) (index_of c.before.before.before.before.before) c.before_costs-early.ensures refuses) refuses c.at.ensures
 
 pub returns-then-q-r : goal.returns-then-q-r
-unfolding cost_fault refused_if
 returns-then-q-r c =
     let passed : Else-early-ne0 = c.before.before.before.before.before.before.before.before in
     let one = batch passed in
@@ -72,22 +85,18 @@ returns-then-q-r c =
     let refuses : fault.number ≡ 0 → ⊥ = λ z. omega arith in
     let found =
     search_found _ _ _ c.loop-k.invariant.3 {r = fault} c.loop-k-test.true
-    (elim c.then-q-r.branch [
-      | then-q-r-via-then-q-r w ↦ simp (add-one, lt-ltb _ _ w.if-q-r.true)
-      | then-q-r-via-else-q-r+then-q-eq0 w ↦ simp (add-one, le-ltb _ _ w.if-q-r.false, eq-eqb _ _ w.if-q-eq0.true)
-    ])
+    (sym (costs_rise _ _ (⊎_elim inl (λ zero. inr zero.1) c.then-q-r.either)))
     refuses
     in
     walk_refused c.batches.invariant c.if-n-i.false
     (faults_costs (week_of one) (index_of one) (early-passes passed) found refuses) refuses c.at-then-q-r.ensures
 
 pub loop-k-preserved : goal.loop-k-preserved
-unfolding cost_fault refused_if
 loop-k-preserved c = (
   omega arith,
   omega arith,
   c.loop-k.invariant.2,
-  search_on _ _ _ c.loop-k.invariant.3 (omega arith) (simp (le-ltb _ _ c.if-q-r.false, ne_eqb _ _ c.if-q-eq0.false)),
+  search_on _ _ _ c.loop-k.invariant.3 (omega arith) (number_of_lem (costs_fall _ _ (omega arith) (λ none. omega arith))),
 )
 
 pub returns-then-later-ne0 : goal.returns-then-later-ne0
