@@ -3,3 +3,4 @@ pub mod Ended
 pub mod Reporting
 pub mod Said
 pub mod Demands
+pub mod Owned
