@@ -16,6 +16,8 @@ import sys
 
 LIBRARY = {"append", "length", "map", "replicate", "reverse", "get_or", "take", "drop"}
 DEFINED = re.compile(r"^\s*(?:(?:abbrev|unfoldable|pub|record|data|ruleset)\s+)*([A-Za-z][\w'-]*)\s*(?:\(|\{|:)")
+# The names of parameters before their type.
+PARAMETERS = re.compile(r"[({]((?:[\w'-]+ )+):")
 # Kept: words of the language that the pattern above takes for names.
 WORDS = {"where", "use", "let", "in", "pub", "elim", "rw", "record"}
 
@@ -29,10 +31,21 @@ def defined(top):
                 continue
             with open(path, encoding="utf-8") as lines:
                 for line in lines:
+                    for binder in PARAMETERS.findall(line):
+                        for word in binder.split():
+                            if snake(word) != word and "-" not in word:
+                                found[word].add(kind)
                     name = DEFINED.match(line)
                     if name and name.group(1) not in WORDS:
                         found[name.group(1)].add(kind)
     return found
+
+
+def aliases(top):
+    """The names that a clause gives to what it imports, where they are not in snake case."""
+    for path in sorted(glob.glob(os.path.join(top, "crates/*/src/**/*.rt"), recursive=True)):
+        with open(path, encoding="utf-8") as f:
+            yield from (word for word in re.findall(r" as (\w+)", f.read()) if snake(word) != word)
 
 
 def imported(top):
@@ -65,7 +78,7 @@ def names(top):
     spelled = collections.defaultdict(set)
     for name in found:
         spelled[respelled(name)].add(name)
-    new = {}
+    new = {word: snake(word) for word in aliases(top)}
     for to, olds in spelled.items():
         words = {name for name in olds if "-" not in name and ("specs" in found[name] or snake(name) != name)}
         for name in olds:

@@ -1,10 +1,10 @@
 // What a log says: how many minutes a position got, when it got the last, and how often the station changed.
 ghost use Rattle.std.specs.Prelude.{◌≡◌};
-ghost use Rattle.edf.specs.Run.{entries as entriesOf, up_to_last, changes as changesOf};
+ghost use Rattle.edf.specs.Run.{entries as entries_of, up_to_last, changes as changes_of};
 
 // How many entries of a log are this position; 0 is idle.
 pub fn entries(log: &[u8], position: u8) -> usize
-    ensures { result ≡ entriesOf position log.now }
+    ensures { result ≡ entries_of position log.now }
 {
     let mut count = 0;
     for m in 0..log.len() {
@@ -30,7 +30,7 @@ pub(crate) fn up_to_last(log: &[u8], position: u8) -> usize
 
 // The first minute counts as after an idle one.
 pub fn changes(log: &[u8]) -> usize
-    ensures { result ≡ changesOf log.now }
+    ensures { result ≡ changes_of log.now }
 {
     let mut before = 0;
     let mut changed = 0;

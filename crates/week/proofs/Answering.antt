@@ -48,10 +48,10 @@ answers fault refusing accepting =
 
 -- it names its fault, if an answer made of a refusal names that, and the answer where nothing refuses names none
 pub answers_name : {A : Type 0} {fault : Refusal} {refusing : Refusal → A} {accepting answer : A} →
-    Answers fault refusing accepting answer → (refusalOf : A → Refusal) → (fault.number ≡ 0 → refusalOf accepting ≡ accepted) →
-    ((r : Refusal) → refusalOf (refusing r) ≡ r) → Proper fault → refusalOf answer ≡ fault
-answers_name {fault = fault} h refusalOf none named proper =
+    Answers fault refusing accepting answer → (refusal_of : A → Refusal) → (fault.number ≡ 0 → refusal_of accepting ≡ accepted) →
+    ((r : Refusal) → refusal_of (refusing r) ≡ r) → Proper fault → refusal_of answer ≡ fault
+answers_name {fault = fault} h refusal_of none named proper =
     elim (ℕ_discrete fault.number 0) [
-      | yes z ↦ ap refusalOf (h.passed z) ∙ none z ∙ sym (proper z)
-      | no n ↦ ap refusalOf (h.refused refl n) ∙ named fault
+      | yes z ↦ ap refusal_of (h.passed z) ∙ none z ∙ sym (proper z)
+      | no n ↦ ap refusal_of (h.refused refl n) ∙ named fault
     ]

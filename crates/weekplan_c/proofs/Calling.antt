@@ -30,92 +30,92 @@ use Rattle.weekplan_c.specs.Call.{recipes_after, Planned, CallFills, LongBuffer}
 use Rattle.weekplan_c.proofs.Holding.{keep_other}
 use Rattle.weekplan_c.proofs.Signed.{minus_injective, not_minus}
 
-module _ (sheet : List ℕ) (tableSize bufferSize : ℕ) where
+module _ (sheet : List ℕ) (table_size buffer_size : ℕ) where
   abbrev w : Week
   w = sheet_week sheet
 
   -- what refuses before anything is written, all that refuses, and the answer
   abbrev keep : Refusal
-  keep = keep_fault sheet tableSize bufferSize
+  keep = keep_fault sheet table_size buffer_size
 
   abbrev call : Refusal
-  call = call_fault sheet tableSize bufferSize
+  call = call_fault sheet table_size buffer_size
 
   abbrev answer : ℤ
-  answer = call_answer sheet tableSize bufferSize
+  answer = call_answer sheet table_size buffer_size
 
-  buffer_proper : Proper (buffer_fault w bufferSize)
+  buffer_proper : Proper (buffer_fault w buffer_size)
   unfolding buffer_fault
-  buffer_proper = short_proper 19 w.count bufferSize refl
+  buffer_proper = short_proper 19 w.count buffer_size refl
 
-  pub long_buffer : LongBuffer w bufferSize ↔ (w.count ≤ bufferSize)
+  pub long_buffer : LongBuffer w buffer_size ↔ (w.count ≤ buffer_size)
   unfolding buffer_fault
-  long_buffer = short_passes 19 w.count bufferSize refl
+  long_buffer = short_passes 19 w.count buffer_size refl
 
   -- what keeps all that is lent: the sheet refuses, ..
   pub keep_sheet : ((read_fault sheet).number ≡ 0 → ⊥) → keep ≡ read_fault sheet
   unfolding keep_fault read_fault
-  keep_sheet = append_first (read_faults sheet) (lent_faults w tableSize bufferSize)
+  keep_sheet = append_first (read_faults sheet) (lent_faults w table_size buffer_size)
 
   -- .. or the sizes do
-  pub keep_sizes : (read_fault sheet).number ≡ 0 → keep ≡ first_of (lent_faults w tableSize bufferSize)
+  pub keep_sizes : (read_fault sheet).number ≡ 0 → keep ≡ first_of (lent_faults w table_size buffer_size)
   unfolding keep_fault read_fault
-  keep_sizes = append_rest (read_faults sheet) (lent_faults w tableSize bufferSize)
+  keep_sizes = append_rest (read_faults sheet) (lent_faults w table_size buffer_size)
 
   pub keep_faultless :
-      (keep.number ≡ 0) ↔ (WellWritten sheet × LongTable w tableSize × LongBuffer w bufferSize)
+      (keep.number ≡ 0) ↔ (WellWritten sheet × LongTable w table_size × LongBuffer w buffer_size)
   unfolding keep_fault read_fault
-  keep_faultless = Iff.trans (append_passes (read_faults sheet) (lent_faults w tableSize bufferSize)) (
+  keep_faultless = Iff.trans (append_passes (read_faults sheet) (lent_faults w table_size buffer_size)) (
     λ (read, lent).
         let (table, (buffer, _)) = (first_of_passes _).0 lent in
-        ((read_faultless sheet).0 read, table_proper w tableSize table, buffer_proper buffer),
+        ((read_faultless sheet).0 read, table_proper w table_size table, buffer_proper buffer),
     λ (read, table, buffer).
         ((read_faultless sheet).1 read, (first_of_passes _).1 (number_of_lem table, (number_of_lem buffer, tt))),
   )
 
-  pub keep_fills : keep.number ≡ 0 → (fill_fault w tableSize).number ≡ 0
-  keep_fills z = let passed = keep_faultless.0 z in (fill_faultless w tableSize).1 (passed.0.list, passed.1)
+  pub keep_fills : keep.number ≡ 0 → (fill_fault w table_size).number ≡ 0
+  keep_fills z = let passed = keep_faultless.0 z in (fill_faultless w table_size).1 (passed.0.list, passed.1)
 
   -- the first refusal of the call's order
   pub call_keep : (keep.number ≡ 0 → ⊥) → call ≡ keep
   unfolding call_fault keep_fault
-  call_keep = append_first (keep_faults sheet tableSize bufferSize) (plan_fault (week_best w) ∷ [])
+  call_keep = append_first (keep_faults sheet table_size buffer_size) (plan_fault (week_best w) ∷ [])
 
   -- where nothing refuses before, it is Choose's
-  pub call_plan : keep.number ≡ 0 → call ≡ (choose_answer w tableSize).refusal
+  pub call_plan : keep.number ≡ 0 → call ≡ (choose_answer w table_size).refusal
   unfolding call_fault keep_fault
   call_plan z =
-      append_last (keep_faults sheet tableSize bufferSize) (plan_fault (week_best w)) (plan_proper (week_best w)) z
-      ∙ sym (plan_fault_lem w tableSize (keep_fills z))
+      append_last (keep_faults sheet table_size buffer_size) (plan_fault (week_best w)) (plan_proper (week_best w)) z
+      ∙ sym (plan_fault_lem w table_size (keep_fills z))
 
   -- nothing refuses: not before anything is written, and there is a plan
   pub call_passed : call.number ≡ 0 →
-      (keep.number ≡ 0) × ((choose_answer w tableSize).refusal.number ≡ 0)
+      (keep.number ≡ 0) × ((choose_answer w table_size).refusal.number ≡ 0)
   call_passed z =
       elim (ℕ_discrete keep.number 0)
       [ yes e ↦ (e, number_of_lem (sym (call_plan e)) ∙ z) | no n ↦ absurd (refuses_too (sym (call_keep n)) n z) ]
 
   -- 14 is Choose's
   pub call_no_plan : call.number ≡ 14 →
-      (keep.number ≡ 0) × ((choose_answer w tableSize).refusal.number ≡ 14)
+      (keep.number ≡ 0) × ((choose_answer w table_size).refusal.number ≡ 14)
   call_no_plan f =
       elim (ℕ_discrete keep.number 0) [
         | yes z ↦ (z, number_of_lem (sym (call_plan z)) ∙ f)
-        | no n ↦ absurd (keep_other sheet tableSize bufferSize n (number_of_lem (sym (call_keep n)) ∙ f))
+        | no n ↦ absurd (keep_other sheet table_size buffer_size n (number_of_lem (sym (call_keep n)) ∙ f))
       ]
 
-  pub call_answer_lem : Answers call (λ r. minus_of r.number) (pos (choose_answer w tableSize).total) answer
+  pub call_answer_lem : Answers call (λ r. minus_of r.number) (pos (choose_answer w table_size).total) answer
   unfolding call_answer
   call_answer_lem = answers _ _ _
 
   -- a total is at most 1,048,560, each worth of a sheet having two bytes
-  pub answer_small : call.number ≡ 0 → (choose_answer w tableSize).total ≤ max_batches * max16
+  pub answer_small : call.number ≡ 0 → (choose_answer w table_size).total ≤ max_batches * max16
   answer_small z =
       let passed = call_passed z in
       let fine = sound w (keep_faultless.0 passed.0).0.list in
-      let names = handed_names w fine (choose_names w tableSize passed.1) in
-      rw (choose_best w tableSize passed.1).summed
-      (rw (list_choice_lem w (choose_answer w tableSize).choice) at (total_small w fine (worths_small sheet) names))
+      let names = handed_names w fine (choose_names w table_size passed.1) in
+      rw (choose_best w table_size passed.1).summed
+      (rw (list_choice_lem w (choose_answer w table_size).choice) at (total_small w fine (worths_small sheet) names))
 
   -- it is a total exactly where nothing refuses
   pub planned_passes : Planned answer ↔ (call.number ≡ 0)
@@ -123,7 +123,7 @@ module _ (sheet : List ℕ) (tableSize bufferSize : ℕ) where
     λ planned.
         elim (ℕ_discrete call.number 0)
         [ yes z ↦ z | no n ↦ absurd (not_minus _ n (sym (call_answer_lem.refused refl n) ∙ planned.1)) ],
-    λ z. ((choose_answer w tableSize).total, call_answer_lem.passed z),
+    λ z. ((choose_answer w table_size).total, call_answer_lem.passed z),
   )
 
   -- minus 14 is the answer exactly where 14 is the first refusal
@@ -144,7 +144,7 @@ module _ (sheet : List ℕ) (tableSize bufferSize : ℕ) where
     λ z.
         let same = number_of_lem (call_plan z) in
         ⊎_elim (λ e. inl (planned_passes.1 (same ∙ e))) (λ e. inr (answer_no_plan.1 (same ∙ e)))
-        ((fills_faultless w tableSize).1 (keep_fills z)),
+        ((fills_faultless w table_size).1 (keep_fills z)),
   )
 
 -- the table and the buffer

@@ -37,32 +37,32 @@ use Rattle.weekplan_c.proofs.Calling.{keep_faultless, keep_fills, call_plan, cal
 use Rattle.weekplan_c.proofs.Calling.{call_answer_lem, long_buffer, answer_small, planned_passes, answer_no_plan, call_no_plan}
 use Rattle.weekplan_c.proofs.Calling.{fills_keep_faultless, picks_filled, picks_kept, recipes_written, recipes_kept}
 
-module _ (sheet : List ℕ) (tableSize bufferSize : ℕ) where
+module _ (sheet : List ℕ) (table_size buffer_size : ℕ) where
   -- Demand 1: "The answer to any list of batches, in order or damaged, is either a plan or one numbered refusal, which says which batch is
   -- at fault where a batch is." 01 gives the call the number alone, "minus the refusal number". Any bytes get a total, or minus the number
   -- of the first refusal of the call's order ..
-  pub call_refuses : (Planned (call_answer sheet tableSize bufferSize) → ⊥) →
-      call_answer sheet tableSize bufferSize ≡ minus_of (call_fault sheet tableSize bufferSize).number
-  call_refuses n = (call_answer_lem sheet tableSize bufferSize).refused refl (λ z. n ((planned_passes sheet tableSize bufferSize).1 z))
+  pub call_refuses : (Planned (call_answer sheet table_size buffer_size) → ⊥) →
+      call_answer sheet table_size buffer_size ≡ minus_of (call_fault sheet table_size buffer_size).number
+  call_refuses n = (call_answer_lem sheet table_size buffer_size).refused refl (λ z. n ((planned_passes sheet table_size buffer_size).1 z))
 
   -- .. whose condition holds, and none that stands before it does ..
   pub call_at_fault :
-      AtFault (CallHolds sheet tableSize bufferSize) call_numbers (sheet_week sheet).count (length (lines_of sheet))
-      (call_fault sheet tableSize bufferSize)
-  call_at_fault = at_fault (call_holds sheet tableSize bufferSize) (call_naming sheet tableSize bufferSize)
+      AtFault (CallHolds sheet table_size buffer_size) call_numbers (sheet_week sheet).count (length (lines_of sheet))
+      (call_fault sheet table_size buffer_size)
+  call_at_fault = at_fault (call_holds sheet table_size buffer_size) (call_naming sheet table_size buffer_size)
 
   -- .. and which is one of 1 to 11, 14 and 16 to 19.
   pub call_answers :
-      Planned (call_answer sheet tableSize bufferSize)
-      ⊎ ((n : ℕ) × (one_of call_numbers n ≡ true) × (call_answer sheet tableSize bufferSize ≡ minus_of n))
+      Planned (call_answer sheet table_size buffer_size)
+      ⊎ ((n : ℕ) × (one_of call_numbers n ≡ true) × (call_answer sheet table_size buffer_size ≡ minus_of n))
   call_answers =
-      elim (ℕ_discrete (call_fault sheet tableSize bufferSize).number 0) [
-        | yes z ↦ inl ((planned_passes sheet tableSize bufferSize).1 z)
+      elim (ℕ_discrete (call_fault sheet table_size buffer_size).number 0) [
+        | yes z ↦ inl ((planned_passes sheet table_size buffer_size).1 z)
         | no n ↦
             inr (
-              (call_fault sheet tableSize bufferSize).number,
+              (call_fault sheet table_size buffer_size).number,
               (call_at_fault.names n).number,
-              (call_answer_lem sheet tableSize bufferSize).refused refl n,
+              (call_answer_lem sheet table_size buffer_size).refused refl n,
             )
       ]
 
@@ -153,42 +153,42 @@ module _ (sheet picks recipes : List ℕ) where
         (run_answer w (list_choice w (recipes_after sheet (length picks) recipes)) (length log)).refusal.number ≡ 0
     call_runs = rw call_writes (choose_runs w (length picks) chosen)
 
-module _ (sheet : List ℕ) (tableSize bufferSize : ℕ) where
+module _ (sheet : List ℕ) (table_size buffer_size : ℕ) where
   -- "A well_formed list, with a table long enough (and a recipe buffer long enough, where one is lent), is refused for want of a plan
   -- exactly when no choice meets the rule" ..
   pub call_none :
-      (call_answer sheet tableSize bufferSize ≡ minus_of 14)
-      ↔ (WellWritten sheet × LongTable (sheet_week sheet) tableSize × LongBuffer (sheet_week sheet) bufferSize × NoPlan (sheet_week sheet))
+      (call_answer sheet table_size buffer_size ≡ minus_of 14)
+      ↔ (WellWritten sheet × LongTable (sheet_week sheet) table_size × LongBuffer (sheet_week sheet) buffer_size × NoPlan (sheet_week sheet))
   call_none = (
     λ e.
-        let no = call_no_plan sheet tableSize bufferSize ((answer_no_plan sheet tableSize bufferSize).0 e) in
-        let passed = (keep_faultless sheet tableSize bufferSize).0 no.0 in
-        (passed.0, passed.1, passed.2, ((choose_none (sheet_week sheet) tableSize).0 no.1).2),
+        let no = call_no_plan sheet table_size buffer_size ((answer_no_plan sheet table_size buffer_size).0 e) in
+        let passed = (keep_faultless sheet table_size buffer_size).0 no.0 in
+        (passed.0, passed.1, passed.2, ((choose_none (sheet_week sheet) table_size).0 no.1).2),
     λ h.
-        let passed = (keep_faultless sheet tableSize bufferSize).1 (h.0, h.1, h.2) in
-        let fourteen = (choose_none (sheet_week sheet) tableSize).1 (h.0.list, h.1, h.3) in
-        (answer_no_plan sheet tableSize bufferSize).1 (number_of_lem (call_plan sheet tableSize bufferSize passed) ∙ fourteen),
+        let passed = (keep_faultless sheet table_size buffer_size).1 (h.0, h.1, h.2) in
+        let fourteen = (choose_none (sheet_week sheet) table_size).1 (h.0.list, h.1, h.3) in
+        (answer_no_plan sheet table_size buffer_size).1 (number_of_lem (call_plan sheet table_size buffer_size passed) ∙ fourteen),
   )
 
   -- .. "and is given a plan whenever one does." 01: "and nothing else is refused".
   pub call_plans :
-      Planned (call_answer sheet tableSize bufferSize)
-      ↔ (WellWritten sheet × LongTable (sheet_week sheet) tableSize × LongBuffer (sheet_week sheet) bufferSize × SomePlan (sheet_week sheet))
+      Planned (call_answer sheet table_size buffer_size)
+      ↔ (WellWritten sheet × LongTable (sheet_week sheet) table_size × LongBuffer (sheet_week sheet) buffer_size × SomePlan (sheet_week sheet))
   call_plans = (
     λ planned.
-        let none = call_passed sheet tableSize bufferSize ((planned_passes sheet tableSize bufferSize).0 planned) in
-        let passed = (keep_faultless sheet tableSize bufferSize).0 none.0 in
-        (passed.0, passed.1, passed.2, ((choose_plans (sheet_week sheet) tableSize).0 none.1).2),
+        let none = call_passed sheet table_size buffer_size ((planned_passes sheet table_size buffer_size).0 planned) in
+        let passed = (keep_faultless sheet table_size buffer_size).0 none.0 in
+        (passed.0, passed.1, passed.2, ((choose_plans (sheet_week sheet) table_size).0 none.1).2),
     λ h.
-        let passed = (keep_faultless sheet tableSize bufferSize).1 (h.0, h.1, h.2) in
-        let planned = (choose_plans (sheet_week sheet) tableSize).1 (h.0.list, h.1, h.3) in
-        (planned_passes sheet tableSize bufferSize).1 (number_of_lem (call_plan sheet tableSize bufferSize passed) ∙ planned),
+        let passed = (keep_faultless sheet table_size buffer_size).1 (h.0, h.1, h.2) in
+        let planned = (choose_plans (sheet_week sheet) table_size).1 (h.0.list, h.1, h.3) in
+        (planned_passes sheet table_size buffer_size).1 (number_of_lem (call_plan sheet table_size buffer_size passed) ∙ planned),
   )
 
   -- include/weekplan.h: 16 × 2,401 bytes of table and 16 of buffer are enough for every list.
-  pub call_enough : WellWritten sheet → max_picks ≤ tableSize → max_batches ≤ bufferSize →
-      LongTable (sheet_week sheet) tableSize × LongBuffer (sheet_week sheet) bufferSize
+  pub call_enough : WellWritten sheet → max_picks ≤ table_size → max_batches ≤ buffer_size →
+      LongTable (sheet_week sheet) table_size × LongBuffer (sheet_week sheet) buffer_size
   call_enough written picks recipes = (
-    picks_enough (sheet_week sheet) tableSize written.list picks,
-    (long_buffer sheet tableSize bufferSize).1 (omega (arith, (sound (sheet_week sheet) written.list).most)),
+    picks_enough (sheet_week sheet) table_size written.list picks,
+    (long_buffer sheet table_size buffer_size).1 (omega (arith, (sound (sheet_week sheet) written.list).most)),
   )

@@ -17,43 +17,43 @@ unfoldable pub buffer_fault : Week → ℕ → Refusal
 buffer_fault w size = short_fault 19 w.count size
 
 -- "11; .. 19": what is lent is too short. The sizes are those of the picks table and of the recipe buffer.
-abbrev pub lent_faults : Week → (tableSize bufferSize : ℕ) → List Refusal
-lent_faults w tableSize bufferSize = table_fault w tableSize ∷ buffer_fault w bufferSize ∷ []
+abbrev pub lent_faults : Week → (table_size buffer_size : ℕ) → List Refusal
+lent_faults w table_size buffer_size = table_fault w table_size ∷ buffer_fault w buffer_size ∷ []
 
 -- the refusals that keep all that is lent, in their order: "Order: 18; then line by line 16, 17; then 1, 2, 3; then batch by batch
 -- 4 to 10 ..; 11; .. 19"
-abbrev pub keep_faults : List ℕ → (tableSize bufferSize : ℕ) → List Refusal
-keep_faults sheet tableSize bufferSize = read_faults sheet ++ lent_faults (sheet_week sheet) tableSize bufferSize
+abbrev pub keep_faults : List ℕ → (table_size buffer_size : ℕ) → List Refusal
+keep_faults sheet table_size buffer_size = read_faults sheet ++ lent_faults (sheet_week sheet) table_size buffer_size
 
-unfoldable pub keep_fault : List ℕ → (tableSize bufferSize : ℕ) → Refusal
-keep_fault sheet tableSize bufferSize = first_of (keep_faults sheet tableSize bufferSize)
+unfoldable pub keep_fault : List ℕ → (table_size buffer_size : ℕ) → Refusal
+keep_fault sheet table_size buffer_size = first_of (keep_faults sheet table_size buffer_size)
 
 -- and all of the call's: ".. then 14"
-unfoldable pub call_fault : List ℕ → (tableSize bufferSize : ℕ) → Refusal
-call_fault sheet tableSize bufferSize =
-    first_of (keep_faults sheet tableSize bufferSize ++ (plan_fault (week_best (sheet_week sheet)) ∷ []))
+unfoldable pub call_fault : List ℕ → (table_size buffer_size : ℕ) → Refusal
+call_fault sheet table_size buffer_size =
+    first_of (keep_faults sheet table_size buffer_size ++ (plan_fault (week_best (sheet_week sheet)) ∷ []))
 
 -- "minus the refusal number"
 abbrev pub minus_of : ℕ → ℤ
 minus_of number = neg_ℤ (pos number)
 
 -- "It gets the total, or minus the refusal number."
-unfoldable pub call_answer : List ℕ → (tableSize bufferSize : ℕ) → ℤ
-call_answer sheet tableSize bufferSize =
-    answer_by (call_fault sheet tableSize bufferSize) (λ r. minus_of r.number) (pos (choose_answer (sheet_week sheet) tableSize).total)
+unfoldable pub call_answer : List ℕ → (table_size buffer_size : ℕ) → ℤ
+call_answer sheet table_size buffer_size =
+    answer_by (call_fault sheet table_size buffer_size) (λ r. minus_of r.number) (pos (choose_answer (sheet_week sheet) table_size).total)
 
 -- "Choosing fills a lent table of bytes." "The table is filled as well when refusal 14 is given." "Only 14 alters lent memory (the
 -- picks table)."
-unfoldable pub picks_after : List ℕ → (picks : List ℕ) (bufferSize : ℕ) → List ℕ
-picks_after sheet picks bufferSize =
-    unless_refused (keep_fault sheet (length picks) bufferSize) (table_after (sheet_week sheet) picks) picks
+unfoldable pub picks_after : List ℕ → (picks : List ℕ) (buffer_size : ℕ) → List ℕ
+picks_after sheet picks buffer_size =
+    unless_refused (keep_fault sheet (length picks) buffer_size) (table_after (sheet_week sheet) picks) picks
 
 -- "Acceptance writes one byte a batch and keeps the rest of that buffer."
-unfoldable pub recipes_after : List ℕ → (tableSize : ℕ) (recipes : List ℕ) → List ℕ
-recipes_after sheet tableSize recipes =
+unfoldable pub recipes_after : List ℕ → (table_size : ℕ) (recipes : List ℕ) → List ℕ
+recipes_after sheet table_size recipes =
     let w = sheet_week sheet in
-    unless_refused (call_fault sheet tableSize (length recipes))
-    (plan_choice w (choose_answer w tableSize) ++ drop w.count recipes)
+    unless_refused (call_fault sheet table_size (length recipes))
+    (plan_choice w (choose_answer w table_size) ++ drop w.count recipes)
     recipes
 
 -- an answer that is a total: it is not negative

@@ -8,19 +8,19 @@ use Rattle.sheet.specs.List.{sheet_week}
 use Rattle.sheet.specs.Holds.{ReadHolds, read_numbers}
 
 -- "11: picks table shorter than n × (c − t + 1), n being the batches.", "19: recipe buffer shorter than n."
-abbrev pub KeepHolds : List ℕ → (tableSize bufferSize : ℕ) → Refusal → Type 0
-KeepHolds sheet tableSize bufferSize =
+abbrev pub KeepHolds : List ℕ → (table_size buffer_size : ℕ) → Refusal → Type 0
+KeepHolds sheet table_size buffer_size =
     let w = sheet_week sheet in
     ReadHolds sheet
-    or (refused 11 0 0 when (tableSize < w.count * width_of w))
-    or (refused 19 0 0 when (bufferSize < w.count))
+    or (refused 11 0 0 when (table_size < w.count * width_of w))
+    or (refused 19 0 0 when (buffer_size < w.count))
 
 abbrev pub keep_numbers : List ℕ
 keep_numbers = read_numbers ++ (11 ∷ 19 ∷ [])
 
 -- "14: no choice meets the rule (Choose)."
-abbrev pub CallHolds : List ℕ → (tableSize bufferSize : ℕ) → Refusal → Type 0
-CallHolds sheet tableSize bufferSize = KeepHolds sheet tableSize bufferSize or (refused 14 0 0 when NoPlan (sheet_week sheet))
+abbrev pub CallHolds : List ℕ → (table_size buffer_size : ℕ) → Refusal → Type 0
+CallHolds sheet table_size buffer_size = KeepHolds sheet table_size buffer_size or (refused 14 0 0 when NoPlan (sheet_week sheet))
 
 abbrev pub call_numbers : List ℕ
 call_numbers = keep_numbers ++ (14 ∷ [])
