@@ -5,16 +5,11 @@ use Rattle.week.specs.declared.record.Batch.{Batch}
 use Rattle.judge.specs.BatchFault.{worths_fault}
 use Rattle.judge.specs.Fault.{order_fault}
 use Rattle.week.proofs.First.{Proper, number_of_lem, refuses_too, refused_if_proper, first_of_here, first_of_later, first_of_last}
-use Rattle.judge.proofs.fault.after_costs.Goals.{Else-worth-ne0}
 use Rattle.judge.proofs.fault.after_costs.Goals as goal
 
 order-proper : (t i : ℕ) (a b : Batch) → Proper (order_fault t i a b)
 unfolding order_fault
 order-proper t i a b = refused_if_proper 10 0 0 refl _
-
--- 8 passes
-passed-worths : (c : Else-worth-ne0) → (worths_fault c.args.b).number ≡ 0
-passed-worths c = number_of_lem (sym c.worths_fault-worth.ensures) ∙ c.if-worth-ne0.false
 
 pub returns-then-worth-ne0 : goal.returns-then-worth-ne0
 returns-then-worth-ne0 c =
@@ -24,10 +19,10 @@ returns-then-worth-ne0 c =
 pub returns-then-number-ne0 : goal.returns-then-number-ne0
 returns-then-number-ne0 c =
     let fault = c.number_fault-number.ensures in
-    fault ∙ sym (first_of_later _ _ (passed-worths c.before.before.before) ∙ first_of_here _ _ (refuses_too fault c.if-number-ne0.true))
+    fault ∙ sym (first_of_later _ _ (number_of_lem (sym c.worths_fault-worth.ensures) ∙ c.if-worth-ne0.false) ∙ first_of_here _ _ (refuses_too fault c.if-number-ne0.true))
 
 pub returns : goal.returns
 returns c =
     c.order_fault.ensures
-    ∙ sym (first_of_later _ _ (passed-worths c.before.before.before.before)
+    ∙ sym (first_of_later _ _ (number_of_lem (sym c.worths_fault-worth.ensures) ∙ c.if-worth-ne0.false)
     ∙ first_of_last _ _ (number_of_lem (sym c.number_fault-number.ensures) ∙ c.if-number-ne0.false) (order-proper _ _ _ _))

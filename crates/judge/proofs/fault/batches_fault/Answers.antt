@@ -17,32 +17,12 @@ use Rattle.week.proofs.First.{number_of_lem, search_found, search_on, search_ove
 use Rattle.week.proofs.Passes.{first_of_passes}
 use Rattle.judge.proofs.WellFormed.{count_passes}
 use Rattle.judge.proofs.Walk.{walk_start, walk_refused, walk_on, walk_over, faults_before, faults_costs, faults_later}
-use Rattle.judge.proofs.fault.batches_fault.Goals.{After-after_costs-later, Else-early-ne0, Else-n-i}
 use Rattle.judge.proofs.fault.batches_fault.Goals as goal
 
--- the places that a later one looks back to: the batch that the walk has come to, its list and its index
-abbrev batch : Else-early-ne0 → Else-n-i
-batch c = c.before.before.before.before
-
-abbrev week_of : Else-n-i → Week
-week_of c = c.args.week
-
-abbrev index_of : Else-n-i → ℕ
-index_of c = c.batches.i
-
 -- 4 to 6 pass
-early-passes : (c : Else-early-ne0) →
-    let one = batch c in
-    (first_of (before_costs (week_of one).closing (batch_at (week_of one) (index_of one)))).number ≡ 0
-early-passes c = number_of_lem (sym c.before_costs-early.ensures) ∙ c.if-early-ne0.false
-
--- 4 to 7 pass: `after_costs` decides
-at-later : (c : After-after_costs-later) →
-    let one = batch c.before.before.before in
-    c.after_costs-later.result ≡ first_of (batch_faults (week_of one) (index_of one))
-at-later c =
-    faults_later (batch c.before.before.before).before.batches.invariant (early-passes c.before.before.before)
-    (number_of_lem (sym (search_over _ _ _ c.loop-k.invariant.3 c.loop-k-test.false))) c.after_costs-later.ensures
+early_passes : (t : ℕ) (b : Batch) {r : Refusal} → r ≡ first_of (before_costs t b) → r.number ≡ 0 →
+    (first_of (before_costs t b)).number ≡ 0
+early_passes t b is zero = number_of_lem (sym is) ∙ zero
 
 -- 7 refuses a recipe that costs more than the one before, or follows one of cost 0, and no other
 module _ (b : Batch) (k : ℕ) where
@@ -61,8 +41,9 @@ batches-init c = walk_start _ _
 
 pub loop-k-init : goal.loop-k-init
 loop-k-init c =
-    let one = batch c in
-    let counted = (count_passes (batch_at (week_of one) (index_of one))).0 ((first_of_passes _).0 (early-passes c)).0 in
+    let b = batch_at c.args.week c.batches.i in
+    let early = early_passes c.args.week.closing b c.before_costs-early.ensures c.if-early-ne0.false in
+    let counted = (count_passes b).0 ((first_of_passes _).0 early).0 in
     (search rules, counted.0, counted.1, refl)
 
 pub after_costs-later-requires : goal.after_costs-later-requires
@@ -75,12 +56,12 @@ pub returns-then-early-ne0 : goal.returns-then-early-ne0
 returns-then-early-ne0 c =
     let refuses = c.if-early-ne0.true in
     walk_refused c.batches.invariant c.if-n-i.false
-    (faults_before (week_of c.before.before.before.before.before) (index_of c.before.before.before.before.before) c.before_costs-early.ensures refuses) refuses c.at.ensures
+    (faults_before c.args.week c.batches.i c.before_costs-early.ensures refuses) refuses c.at.ensures
 
 pub returns-then-q-r : goal.returns-then-q-r
 returns-then-q-r c =
-    let passed : Else-early-ne0 = c.before.before.before.before.before.before.before.before in
-    let one = batch passed in
+    let b = batch_at c.args.week c.batches.i in
+    let early = early_passes c.args.week.closing b c.before_costs-early.ensures c.if-early-ne0.false in
     let fault : Refusal = refused 7 0 (c.loop-k.k + 1) in
     let refuses : fault.number ≡ 0 → ⊥ = λ z. omega arith in
     let found =
@@ -89,7 +70,7 @@ returns-then-q-r c =
     refuses
     in
     walk_refused c.batches.invariant c.if-n-i.false
-    (faults_costs (week_of one) (index_of one) (early-passes passed) found refuses) refuses c.at-then-q-r.ensures
+    (faults_costs c.args.week c.batches.i early found refuses) refuses c.at-then-q-r.ensures
 
 pub loop-k-preserved : goal.loop-k-preserved
 loop-k-preserved c = (
@@ -101,9 +82,17 @@ loop-k-preserved c = (
 
 pub returns-then-later-ne0 : goal.returns-then-later-ne0
 returns-then-later-ne0 c =
-    walk_refused c.batches.invariant c.if-n-i.false (at-later c.before.before.before) c.if-later-ne0.true c.at-then-later-ne0.ensures
+    let b = batch_at c.args.week c.batches.i in
+    let early = early_passes c.args.week.closing b c.before_costs-early.ensures c.if-early-ne0.false in
+    let costs = number_of_lem (sym (search_over _ _ _ c.loop-k.invariant.3 c.loop-k-test.false)) in
+    let later = faults_later c.batches.invariant early costs c.after_costs-later.ensures in
+    walk_refused c.batches.invariant c.if-n-i.false later c.if-later-ne0.true c.at-then-later-ne0.ensures
 
 pub batches-preserved : goal.batches-preserved
 batches-preserved c =
+    let b = batch_at c.args.week c.batches.i in
+    let early = early_passes c.args.week.closing b c.before_costs-early.ensures c.if-early-ne0.false in
+    let costs = number_of_lem (sym (search_over _ _ _ c.loop-k.invariant.3 c.loop-k-test.false)) in
+    let later = faults_later c.batches.invariant early costs c.after_costs-later.ensures in
     walk_on c.batches.invariant c.if-n-i.false (omega arith)
-    (number_of_lem (sym (at-later c.before.before)) ∙ c.if-later-ne0.false) refl refl
+    (number_of_lem (sym later) ∙ c.if-later-ne0.false) refl refl

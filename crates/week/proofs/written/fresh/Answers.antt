@@ -8,11 +8,7 @@ use Rattle.week.specs.Record.{max_batches, empty_batch, no_batch}
 use Rattle.week.specs.Written.{batches_of}
 use Rattle.week.proofs.Owned.{batches_owned}
 use Rattle.week.proofs.Writing.{batches_placed, placed_counted, is_written}
-use Rattle.week.proofs.written.fresh.Goals.{Start}
 use Rattle.week.proofs.written.fresh.Goals as goal
-
-long : (c : Start) → length c.args.week.batches ≡ max_batches
-long c = batches_owned c.args.week _ c.well_formed.0
 
 pub loop-i-init : goal.loop-i-init
 loop-i-init c =
@@ -32,7 +28,7 @@ loop-i-preserved c =
       inv.2,
       rw inv.3
           (front_step no_batch c.args.week.batches (replicate max_batches empty_batch) c.loop-i.i
-          (omega (arith, long c.before.before.before.before.before)) (omega (arith, length-replicate max_batches empty_batch))),
+          (omega (arith, batches_owned c.args.week _ c.well_formed.0)) (omega (arith, length-replicate max_batches empty_batch))),
     )
 
 pub returns : goal.returns
@@ -41,6 +37,6 @@ returns c =
     let week = c.args.week in
     let n = min week.count max_batches in
     let all : c.loop-i.i ≡ n = omega (arith, c.places-n.ensures) in
-    is_written (batches_of week) inv.1 inv.2 (c.places-n.ensures ∙ sym (placed_counted week (long c.before.before.before.before)))
-    (inv.3 ∙ rw (all, ← batches_placed week (long c.before.before.before.before))
-    (front_padded max_batches empty_batch week.batches n (omega (arith, long c.before.before.before.before)) (omega arith)))
+    is_written (batches_of week) inv.1 inv.2 (c.places-n.ensures ∙ sym (placed_counted week (batches_owned c.args.week _ c.well_formed.0)))
+    (inv.3 ∙ rw (all, ← batches_placed week (batches_owned c.args.week _ c.well_formed.0))
+    (front_padded max_batches empty_batch week.batches n (omega (arith, batches_owned c.args.week _ c.well_formed.0)) (omega arith)))

@@ -9,11 +9,8 @@ use Rattle.week.specs.Written.{batches_of}
 use Rattle.week.proofs.Owned.{batches_owned}
 use Rattle.week.proofs.Writing.{batches_placed, is_written}
 use Rattle.week.proofs.LeftOut.{passed_over, stored_next}
-use Rattle.week.proofs.written.leave_out.Goals.{Start, then-batch-number, else-batch-number}
+use Rattle.week.proofs.written.leave_out.Goals.{then-batch-number, else-batch-number}
 use Rattle.week.proofs.written.leave_out.Goals as goal
-
-long : (c : Start) → length c.args.week.batches ≡ max_batches
-long c = batches_owned c.args.week _ c.well_formed.0
 
 pub loop-i-init : goal.loop-i-init
 unfolding without
@@ -31,22 +28,22 @@ loop-i-preserved c =
     let inv = c.loop-i.invariant in
     let xs = c.args.week.batches in
     let room : c.loop-i.i < max_batches = omega (arith, c.places-n.ensures) in
-    let more : c.loop-i.i < length xs = omega (arith, long c.before.before.before.before.before.before.before) in
+    let more : c.loop-i.i < length xs = omega (arith, batches_owned c.args.week _ c.well_formed.0) in
     elim c.if-batch-number.branch [
       | then-batch-number w ↦ (
-          omega arith,
-          omega (arith, w.count-is),
-          rw w.left-is inv.2,
-          rw w.left-is inv.3,
-          rw (w.left-is, w.count-is) (stored_next _ xs c.loop-i.i more inv.4 w.if-batch-number.true room),
-        )
+        omega arith,
+        omega (arith, w.count-is),
+        rw w.left-is inv.2,
+        rw w.left-is inv.3,
+        rw (w.left-is, w.count-is) (stored_next _ xs c.loop-i.i more inv.4 w.if-batch-number.true room),
+      )
       | else-batch-number w ↦ (
-          omega arith,
-          omega (arith, w.count-is),
-          rw w.left-is inv.2,
-          rw w.left-is inv.3,
-          rw (w.left-is, w.count-is) (passed_over _ xs c.loop-i.i more inv.4 w.if-batch-number.false),
-        )
+        omega arith,
+        omega (arith, w.count-is),
+        rw w.left-is inv.2,
+        rw w.left-is inv.3,
+        rw (w.left-is, w.count-is) (passed_over _ xs c.loop-i.i more inv.4 w.if-batch-number.false),
+      )
     ]
 
 pub returns : goal.returns
@@ -55,5 +52,5 @@ returns c =
     let args = c.args in
     let all : c.loop-i.i ≡ min args.week.count max_batches = omega (arith, c.places-n.ensures) in
     let h = rw all at inv.4 in
-    let same = batches_placed args.week (long c.before.before.before.before) in
+    let same = batches_placed args.week (batches_owned c.args.week _ c.well_formed.0) in
     is_written (without args.number (batches_of args.week)) inv.2 inv.3 (rw same at h.counted) (rw same at h.stored)

@@ -8,11 +8,7 @@ use Rattle.week.specs.Record.{max_batches, empty_batch, no_batch}
 use Rattle.week.proofs.Owned.{batches_owned}
 use Rattle.draft.specs.declared.record.Draft.{Draft}
 use Rattle.draft.specs.Record.{max_kept, of_week}
-use Rattle.draft.proofs.record.Draft.of_week.Goals.{Start}
 use Rattle.draft.proofs.record.Draft.of_week.Goals as goal
-
-long : (c : Start) → length c.args.week.batches ≡ max_batches
-long c = batches_owned c.args.week _ c.well_formed.0
 
 pub loop-i-init : goal.loop-i-init
 loop-i-init c =
@@ -31,7 +27,7 @@ loop-i-preserved c =
       inv.2,
       rw inv.3
           (front_step no_batch c.args.week.batches (replicate max_kept empty_batch) c.loop-i.i
-          (omega (arith, long c.before.before.before.before)) (omega (arith, length-replicate max_kept empty_batch))),
+          (omega (arith, batches_owned c.args.week _ c.well_formed.0)) (omega (arith, length-replicate max_kept empty_batch))),
     )
 
 pub returns : goal.returns
@@ -40,6 +36,6 @@ returns c =
     let inv = c.loop-i.invariant in
     let batches = c.args.week.batches in
     let all : c.loop-i.i ≡ max_batches = omega arith in
-    let front = front_padded max_kept empty_batch batches max_batches (omega (arith, long c.before.before.before)) (omega arith) in
-    let whole = take_all max_batches batches (omega (arith, long c.before.before.before)) in
+    let front = front_padded max_kept empty_batch batches max_batches (omega (arith, batches_owned c.args.week _ c.well_formed.0)) (omega arith) in
+    let whole = take_all max_batches batches (omega (arith, batches_owned c.args.week _ c.well_formed.0)) in
     rw (inv.1, inv.2, inv.3 ∙ rw all front ∙ ap (padded max_kept empty_batch) whole)

@@ -7,14 +7,14 @@ use lib.Seq.{length-take-le, get_or-take}
 use Rattle.arrays.proofs.Stores.{filled_step, filled_all}
 use Rattle.week.specs.declared.record.Week.{Week}
 use Rattle.week.specs.Record.{max_batches, no_batch}
-use Rattle.draft.specs.Record.{week_of}
+use Rattle.draft.specs.declared.record.Draft.{Draft}
+use Rattle.draft.specs.Record.{max_kept, week_of}
 use Rattle.draft.proofs.Owned.{kept_owned}
-use Rattle.draft.proofs.record.Draft.week.Goals.{Start}
 use Rattle.draft.proofs.record.Draft.week.Goals as goal
 
 -- the first batches are as many as the week has
-size : (c : Start) → length (take max_batches c.args.self.batches) ≡ max_batches
-size c = length-take-le max_batches c.args.self.batches (omega (arith, kept_owned c.args.self _ c.well_formed.0))
+size : (d : Draft) → length d.batches ≡ max_kept → length (take max_batches d.batches) ≡ max_batches
+size d long = length-take-le max_batches d.batches (omega (arith, long))
 
 pub loop-i-init : goal.loop-i-init
 loop-i-init c =
@@ -23,7 +23,7 @@ loop-i-init c =
       ap (λ (w : Week). w.opening) week,
       ap (λ (w : Week). w.closing) week,
       record {
-        size = rw week (sym (size c.before));
+        size = rw week (sym (size c.args.self (kept_owned c.args.self _ c.well_formed.0)));
         done = λ k low. absurd (omega arith);
       },
     )
@@ -37,7 +37,7 @@ loop-i-preserved c =
       inv.1,
       inv.2,
       filled_step no_batch (take max_batches kept) _ _ c.loop-i.i c.loop-i.week.batches _
-          (omega (arith, size c.before.before.before.before))
+          (omega (arith, size c.args.self (kept_owned c.args.self _ c.well_formed.0)))
           (sym (get_or-take max_batches kept c.loop-i.i no_batch more))
           (λ k below other. omega arith) inv.3,
     )
@@ -51,5 +51,5 @@ returns c =
       inv.1,
       inv.2,
       filled_all no_batch (take max_batches kept) _ c.loop-i.week.batches
-          (λ k below. omega (arith, size c.before.before.before)) inv.3,
+          (λ k below. omega (arith, size c.args.self (kept_owned c.args.self _ c.well_formed.0))) inv.3,
     )
