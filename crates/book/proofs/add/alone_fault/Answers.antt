@@ -11,20 +11,20 @@ use Rattle.book.proofs.add.alone_fault.Goals.{After-list_fault-fault}
 use Rattle.book.proofs.add.alone_fault.Goals as goal
 
 -- what a list of the batch is refused for
-fault-of : (c : After-list_fault-fault) →
+fault_of : (c : After-list_fault-fault) →
     let args = c.args in
     c.list_fault-fault.result ≡ at_place 1 (first_of (new_faults args.closing [] args.batch))
-fault-of c =
+fault_of c =
     c.list_fault-fault.ensures ∙ rw c.empty-alone.ensures (alone_fault _ _ _ c.requires)
 
 pub returns-then-fault-ne0 : goal.returns-then-fault-ne0
 returns-then-fault-ne0 c =
     let args = c.args in
-    let fault = fault-of c.before.before.before in
+    let fault = fault_of c.before.before.before in
     let unplaced = new_each (λ (r : Refusal). r.place ≡ 0) refl (λ _ _ _. refl) args.closing [] args.batch in
     c.at.ensures ∙ ap (λ (r : Refusal). refused r.number 0 r.recipe) fault
     ∙ out_of_place 1 _ unplaced (refuses_too fault c.if-fault-ne0.true)
 
 pub returns : goal.returns
 returns c =
-    c.none.ensures ∙ sym (first_of_proper _ (sym (number_of_lem (fault-of c.before.before.before) ∙ place_number 1 _) ∙ c.if-fault-ne0.false))
+    c.none.ensures ∙ sym (first_of_proper _ (sym (number_of_lem (fault_of c.before.before.before) ∙ place_number 1 _) ∙ c.if-fault-ne0.false))

@@ -9,16 +9,16 @@ use Rattle.book.proofs.open.open.Goals.{After-list_fault-fault}
 use Rattle.book.proofs.open.open.Goals as goal
 
 -- what the empty list is refused for
-fault-of : (c : After-list_fault-fault) →
+fault_of : (c : After-list_fault-fault) →
     let args = c.args in
     open_fault args.opening args.closing ≡ c.list_fault-fault.result
-fault-of c = sym (c.list_fault-fault.ensures ∙ ap list_fault c.empty-list.ensures ∙ empty_fault _ _)
+fault_of c = sym (c.list_fault-fault.ensures ∙ ap list_fault c.empty-list.ensures ∙ empty_fault _ _)
 
 pub returns-then-fault-ne0 : goal.returns-then-fault-ne0
 returns-then-fault-ne0 c =
-    rw c.empty.ensures (sym ((open_answers _ _).refused (fault-of c.before.before.before) c.if-fault-ne0.true))
+    rw c.empty.ensures (sym ((open_answers _ _).refused (fault_of c.before.before.before) c.if-fault-ne0.true))
 
 pub returns : goal.returns
 returns c =
     rw (c.none.ensures, c.empty-list.ensures)
-    (sym ((open_answers _ _).passed (number_of_lem (fault-of c.before.before.before) ∙ c.if-fault-ne0.false)))
+    (sym ((open_answers _ _).passed (number_of_lem (fault_of c.before.before.before) ∙ c.if-fault-ne0.false)))

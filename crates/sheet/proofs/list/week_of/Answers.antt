@@ -25,9 +25,9 @@ first-length : {sheet : List ℕ} {end : ℕ} → LineEnd sheet 0 end → (lines
 first-length at-line passed = week-length _ (ap frame_of (sym (first_line at-line)) ∙ ((lines_pass _).0 passed).week)
 
 -- the line that the loop has come to
-later-line : {sheet : List ℕ} {i start end : ℕ} → Reached sheet i start → LineEnd sheet start end →
+later_line : {sheet : List ℕ} {i start end : ℕ} → Reached sheet i start → LineEnd sheet start end →
     part_of sheet start end ≡ line_at (lines_of sheet) i
-later-line h at-line = sym (reached_line h at-line)
+later_line h at-line = sym (reached_line h at-line)
 
 pub line_end-start-requires : goal.line_end-start-requires
 line_end-start-requires c = placed_bytes c.args.sheet.now c.requires
@@ -50,13 +50,13 @@ loop-start-init c = (
 pub batch_of-requires : goal.batch_of-requires
 batch_of-requires c =
     let inv = c.loop-start.invariant in
-    ap frame_of (later-line inv.0 c.line_end-end.ensures)
+    ap frame_of (later_line inv.0 c.line_end-end.ensures)
     ∙ ((lines_pass _).0 c.requires).batches _ (omega arith) (reached_below inv.0 c.line_end-end.ensures)
 
 pub loop-start-preserved : goal.loop-start-preserved
 loop-start-preserved c =
     let inv = c.loop-start.invariant in
-    let line = later-line inv.0 c.line_end-end.ensures in (
+    let line = later_line inv.0 c.line_end-end.ensures in (
       reached_step inv.0 c.line_end-end.ensures,
       elim c.if-i-lt-MAX_BATCHES.branch [
         | then-i-lt-MAX_BATCHES w ↦
