@@ -1,4 +1,3 @@
 pub mod Each
 pub mod Named
 pub mod Answering
-pub mod Owned

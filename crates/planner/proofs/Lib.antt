@@ -10,3 +10,4 @@ pub mod WrittenRule
 pub mod Holding
 pub mod Station
 pub mod Outcomes
+pub mod Owned

@@ -3,4 +3,3 @@ pub mod Ended
 pub mod Reporting
 pub mod Said
 pub mod Demands
-pub mod Owned

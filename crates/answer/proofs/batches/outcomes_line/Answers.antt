@@ -6,7 +6,7 @@ use Rattle.planner.specs.Run.{set_aside}
 use Rattle.text.proofs.Putting.{puts-length}
 use Rattle.answer.specs.Line.{run_fields, outcomes_line, outcome_width}
 use Rattle.answer.proofs.Each.{saying_start, saying_step, saying_line}
-use Rattle.answer.proofs.Owned.{outcomes_owned}
+use Rattle.planner.proofs.Owned.{outcomes_owned}
 use Rattle.answer.proofs.batches.outcomes_line.Goals as goal
 
 pub loop-i-init : goal.loop-i-init

@@ -5,7 +5,7 @@ use lib.ListN.{length}
 use Rattle.text.proofs.Putting.{puts-length}
 use Rattle.answer.specs.Line.{recipe_fields, recipes_line, recipe_width}
 use Rattle.answer.proofs.Each.{saying_start, saying_step, saying_line}
-use Rattle.answer.proofs.Owned.{recipes_owned}
+use Rattle.planner.proofs.Owned.{recipes_owned}
 use Rattle.answer.proofs.batches.recipes_line.Goals as goal
 
 pub loop-i-init : goal.loop-i-init

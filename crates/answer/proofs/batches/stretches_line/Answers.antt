@@ -6,7 +6,7 @@ use Rattle.jobs.specs.Stretches.{no_stretch}
 use Rattle.text.proofs.Putting.{puts-length}
 use Rattle.answer.specs.Line.{stretch_fields, stretches_line, stretch_width}
 use Rattle.answer.proofs.Each.{saying_start, saying_step, saying_line}
-use Rattle.answer.proofs.Owned.{stretches_owned}
+use Rattle.planner.proofs.Owned.{stretches_owned}
 use Rattle.answer.proofs.batches.stretches_line.Goals as goal
 
 pub loop-i-init : goal.loop-i-init

@@ -2,7 +2,7 @@
 use borrow.Author.Rules.{rules}
 use native.Mathlib.Omega.{arith}
 use Rattle.answer.proofs.Answering.{puts_answer, plan_places}
-use Rattle.answer.proofs.Owned.{recipes_owned}
+use Rattle.planner.proofs.Owned.{recipes_owned}
 use Rattle.answer.proofs.operation.plan_text.Goals as goal
 
 pub plan_lines-len-requires : goal.plan_lines-len-requires

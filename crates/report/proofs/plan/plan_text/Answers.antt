@@ -5,7 +5,7 @@ use mathlib.Core.Path.{◌≡◌}
 use mathlib.Core.List.{flatten}
 use Rattle.text.proofs.Putting.{puts-length, puts_then}
 use Rattle.report.specs.Report.{plan_lines}
-use Rattle.report.proofs.Owned.{recipes_owned}
+use Rattle.planner.proofs.Owned.{recipes_owned}
 use Rattle.report.proofs.plan.plan_text.Goals as goal
 
 pub slice_bounds-check-end : goal.slice_bounds-check-end

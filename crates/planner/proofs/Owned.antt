@@ -1,4 +1,4 @@
--- What owning the answer of an operation tells: how long its array is, a place for each of sixteen batches.
+-- What owning the answer of an operation tells: it has a place for each of sixteen batches.
 use mathlib.Core.Path.{◌≡◌}
 use mathlib.Core.List.{List}
 use lib.ListN.{length}
