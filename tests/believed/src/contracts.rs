@@ -14,11 +14,12 @@ pub fn read(path: &str, text: &str) -> File {
     for (at, line) in lines.iter().enumerate() {
         let item = unmarked(line.trim_start());
         let (first, rest) = item.split_once(' ').unwrap_or((item, ""));
-        let rest = rest.trim_end_matches(';');
         let name = identifiers(rest).next().unwrap_or_default();
         match first {
-            "use" => file.scope.bring_type(&rest.replace("crate", own)),
-            "ghost" => file.scope.bring(rest.trim_start_matches("use ")),
+            "use" => file
+                .scope
+                .bring_types(&import(&lines[at..]).replace("crate", own)),
+            "ghost" => file.scope.bring(&import(&lines[at..])),
             "struct" | "enum" => {
                 let last = if item.ends_with('{') { "}" } else { line };
                 let body = upto(last, &lines[at..]);
@@ -39,6 +40,14 @@ fn unmarked(line: &str) -> &str {
         Some(rest) => unmarked(rest),
         None => line,
     }
+}
+
+/// What a `use` item brings in, which can take several lines.
+fn import(lines: &[&str]) -> String {
+    let text = lines.join(" ");
+    let item = text.split(';').next().unwrap_or_default();
+    let (_, path) = item.split_once("use ").unwrap_or_default();
+    path.to_string()
 }
 
 /// The lines to the first that is `end`, which is among them; those of a method are indented.
@@ -69,6 +78,7 @@ fn words_of_contract(lines: &[&str]) -> Words {
     let mut words = Words::default();
     words.used.extend(types(signature));
     words.bound.extend(parameters(signature));
+    words.bound.insert("result".to_string());
     for clause in parts {
         let term = clause.split_once('{').map_or(clause, |(_, term)| term);
         words.read(term);

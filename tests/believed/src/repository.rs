@@ -5,7 +5,7 @@ use crate::scope::{Meaning, Place};
 use crate::{contracts, definitions};
 use std::collections::{BTreeMap, BTreeSet};
 use std::fs;
-use std::path::Path;
+use std::path::{Path, PathBuf};
 
 #[derive(Default)]
 pub struct Repository {
@@ -13,21 +13,27 @@ pub struct Repository {
 }
 
 impl Repository {
-    /// Every file of definitions and every file of code below a folder.
+    /// Every file of definitions and every file of code of the crates in a folder.
     pub fn read(folder: &str) -> Result<Repository, String> {
         let mut repository = Repository::default();
-        repository.read_below(Path::new(folder))?;
+        for folder in inside(Path::new(folder))? {
+            for part in ["specs", "src"].map(|part| folder.join(part)) {
+                if part.is_dir() {
+                    repository.read_below(&part)?;
+                }
+            }
+        }
         Ok(repository)
     }
 
     fn read_below(&mut self, path: &Path) -> Result<(), String> {
         let name = path.to_string_lossy();
-        let failed = |error| format!("{name}: {error}");
         if path.is_dir() {
-            for inside in fs::read_dir(path).map_err(failed)? {
-                self.read_below(&inside.map_err(failed)?.path())?;
+            for path in inside(path)? {
+                self.read_below(&path)?;
             }
-        } else if name.contains("/specs/") || name.contains("/src/") {
+        } else {
+            let failed = |error| format!("{name}: {error}");
             let text = fs::read_to_string(path).map_err(failed)?;
             let file = match name.ends_with(".rt") {
                 true => contracts::read(&name, &text),
@@ -90,4 +96,12 @@ impl Repository {
             Meaning::Kit => None,
         }
     }
+}
+
+fn inside(folder: &Path) -> Result<Vec<PathBuf>, String> {
+    let failed = |error| format!("{}: {error}", folder.display());
+    let entries = fs::read_dir(folder).map_err(failed)?;
+    entries
+        .map(|entry| entry.map(|entry| entry.path()).map_err(failed))
+        .collect()
 }

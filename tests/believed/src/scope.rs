@@ -43,9 +43,9 @@ impl Scope {
         }
     }
 
-    /// An operator, as `_≡_`, is used by its parts as well.
+    /// An operator, as `◌≡◌`, is used by its parts as well.
     pub fn add(&mut self, name: &str, meaning: Meaning) {
-        let parts = name.split('_').filter(|part| !part.is_empty());
+        let parts = name.split('◌').filter(|part| !part.is_empty());
         for used in parts.chain([name]) {
             self.names.insert(used.to_string(), meaning.clone());
         }
@@ -65,16 +65,17 @@ impl Scope {
         }
     }
 
-    /// What a `use` of Rattle brings in, where it is a type: `CRATE::MODULE::Type`.
-    pub fn bring_type(&mut self, import: &str) {
-        let (path, here) = renamed(import);
-        let here = here.rsplit("::").next().unwrap_or(here);
-        let parts: Vec<&str> = path.split("::").collect();
-        match &parts[..] {
-            [library, modules @ .., name] if is_type(name) => {
+    /// What a `use` of Rattle brings in, where it is a type: `CRATE::MODULE::Type`, or `CRATE::MODULE::{Type, Another}`.
+    pub fn bring_types(&mut self, import: &str) {
+        let (path, names) = import.rsplit_once("::").unwrap_or(("", import));
+        let [library, modules @ ..] = &path.split("::").collect::<Vec<_>>()[..] else {
+            return;
+        };
+        for name in names.trim_matches(['{', '}']).split(',') {
+            let (name, here) = renamed(name.trim());
+            if is_type(name) {
                 self.add(here, ours(library, &source(modules), name));
             }
-            _ => {}
         }
     }
 }
@@ -90,17 +91,18 @@ fn renamed(name: &str) -> (&str, &str) {
     name.split_once(" as ").unwrap_or((name, name))
 }
 
-/// The library of a crate is `Rattle·CRATE`, and that of its definitions, within the crate, `Rattle·CRATE·specs`.
+/// The definitions of a crate are `Rattle.CRATE.specs`, with its structs and enums among them as `declared`.
 fn meaning(path: &str, name: &str) -> Meaning {
     let parts: Vec<&str> = path.split('.').collect();
-    let Some(library) = parts[0].strip_prefix("Rattle·") else {
-        return Meaning::Kit;
-    };
-    let library = library.trim_end_matches("·specs");
-    match &parts[1..] {
-        ["specs", "declared", modules @ .., name, "the-variants"]
-        | ["specs", "declared", modules @ .., name] => ours(library, &source(modules), name),
-        modules => ours(library, &format!("{}.antt", modules.join("/")), name),
+    match &parts[..] {
+        ["Rattle", library, "specs", "declared", modules @ .., name, "TheVariants"]
+        | ["Rattle", library, "specs", "declared", modules @ .., name] => {
+            ours(library, &source(modules), name)
+        }
+        ["Rattle", library, modules @ ..] => {
+            ours(library, &format!("{}.antt", modules.join("/")), name)
+        }
+        _ => Meaning::Kit,
     }
 }
 

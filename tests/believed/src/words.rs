@@ -4,7 +4,7 @@ use std::collections::BTreeSet;
 
 /// Words that come from no `use` line: the language's own, its prelude's, and those of contracts.
 const ALWAYS_THERE: &str =
-    "pub abbrev unfoldable axiom record data module where let in λ → × Type Unit ⊥ _ now ⌜ ⌝";
+    "pub abbrev unfoldable axiom record data module where let in λ → × Type Unit ⊥ _";
 
 const MARKS: [char; 7] = ['(', ')', '{', '}', ';', ',', '@'];
 
