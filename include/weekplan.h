@@ -1,14 +1,15 @@
 /*
  * weekplan.h: the week planner, called from C.
  *
- * Link with libweekplan_c.a, which `rt staticlib weekplan_c` writes to target/staticlib. It needs
+ * Link with libweekplan_c.a, which `rt lib`, in crates/weekplan_c, writes to out/ there. It needs
  * nothing but the C library.
  *
  * The answer, and what the call leaves in the two buffers, are the contract of weekplan_choose in
  * crates/weekplan_c/src/lib.rt, proved for every sheet and all sizes; what else is said here of plan,
  * total, table and sizes is proved in crates/weekplan_c/proofs/Demands.antt. What is said of pointers,
- * memory and threads is no part of a contract: it rests on the language, which has no heap and no
- * statics, and on its compiler. "01" is the buyer's document.
+ * memory and threads is no part of a contract: it rests on the language, where a function that is
+ * handed no allocator has no heap and no static can be written, and on its compiler. "01" is the
+ * buyer's document.
  */
 #ifndef WEEKPLAN_H
 #define WEEKPLAN_H
