@@ -7,7 +7,7 @@ trap 'exit 2' ERR
 cd "$(dirname "${BASH_SOURCE[0]}")/.." || exit 2
 
 # shellcheck disable=SC2154 # the command's
-program=target/bin/$name
+program=crates/$name/out/$name
 proof=target/$name.proved
 log=target/$name.log
 
@@ -26,21 +26,22 @@ kit() {
     rt version 2>/dev/null || head -n 1 "$proof"
 }
 
+# A crate's out/ has what rt made of the rest.
 sources() {
-    find -L crates crates.txt -type f -print0 | LC_ALL=C sort -z | xargs -0 sha256sum | sha256sum
+    find -L crates crates.txt -regex 'crates/[^/]*/out' -prune -o -type f -print0 | LC_ALL=C sort -z | xargs -0 sha256sum | sha256sum
 }
 
 built() {
     sha256sum "$program"
 }
 
-# The program is there and, where there was a proof, it is the one that was built then.
-is_built() {
-    [ -x "$program" ] && { [ ! -e "$proof" ] || [ "$(built)" = "$(tail -n 1 "$proof")" ]; }
+is_proved() {
+    [ -e "$proof" ] && [ -x "$program" ] && [ "$(kit && sources && built)" = "$(<"$proof")" ]
 }
 
-is_proved() {
-    [ -e "$proof" ] && is_built && [ "$(kit && sources)" = "$(head -n 2 "$proof")" ]
+# Where all is proved and built, rt runs the program, and then ends with the status of that: this line tells.
+is_running() {
+    grep -q "^rt: running out/$name;" "$log"
 }
 
 prove() {
@@ -49,14 +50,13 @@ prove() {
     say "proving and building, once"
     mkdir -p target
     of=$(kit && sources)
-    # rt builds nothing of which its own stamp says that it is built, though it be gone, or another.
-    is_built || rm -f "target/stamp/$name"
-    rt check "$name" </dev/null >"$log" 2>&1 || { tail -n 20 "$log" >&2 && fail "not proved; $PWD/$log has the whole of it"; }
+    (cd "crates/$name" && rt run) </dev/null >/dev/null 2>"$log" || is_running ||
+        { tail -n 20 "$log" >&2 && fail "not proved; $PWD/$log has the whole of it"; }
     { echo "$of" && built; } >"$proof"
 }
 
-# Of calls at once one proves, and the others wait for it: rt has no lock, and two checks write the same files of target/. The lock is on
-# the folder of the tree, which is there before target/ and stays when that is removed.
+# Of calls at once one proves, and the others wait for it, to take what it proved: rt has them wait too, but then each asks it anew. The
+# lock is on the folder of the tree, which is there before target/ and stays when that is removed.
 prove_once() {
     is_proved && return
     (
