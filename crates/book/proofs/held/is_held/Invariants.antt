@@ -9,6 +9,3 @@ use Rattle.book.proofs.held.is_held.Given as goal
 
 abbrev pub invariant-loop-i : goal.invariant-loop-i
 invariant-loop-i l = (l.i ≤ l.n) × (some_below (λ k. eqb (number_at l.list k) l.number) l.i ≡ false)
-
-abbrev pub decreases-loop-i : goal.decreases-loop-i
-decreases-loop-i l = l.n - l.i

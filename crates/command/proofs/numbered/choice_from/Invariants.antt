@@ -5,6 +5,3 @@ use Rattle.command.proofs.numbered.choice_from.Given as goal
 
 abbrev pub invariant-loop-i : goal.invariant-loop-i
 invariant-loop-i l = Copying l.values l.n l.i l.recipes
-
-abbrev pub decreases-loop-i : goal.decreases-loop-i
-decreases-loop-i l = l.n - l.i

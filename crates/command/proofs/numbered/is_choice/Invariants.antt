@@ -9,6 +9,3 @@ use Rattle.command.proofs.numbered.is_choice.Given as goal
 abbrev pub invariant-loop-i : goal.invariant-loop-i
 invariant-loop-i l =
     (l.n ≤ max_kept) × (length l.values ≡ max_kept) × (are_bytes (drop l.i (take l.n l.values)) ≡ are_bytes (take l.n l.values))
-
-abbrev pub decreases-loop-i : goal.decreases-loop-i
-decreases-loop-i l = l.n - l.i

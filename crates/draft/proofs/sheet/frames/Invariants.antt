@@ -14,6 +14,3 @@ invariant-loop-i l =
     × (length l.text ≡ length l.initial.text)
     × (l.end ≤ l.initial.end + l.i * (batch_length + recipe_length * max_recipes))
     × Puts l.initial.text l.initial.end (flatten (batch_frames l.draft l.i)) l.text l.end
-
-abbrev pub decreases-loop-i : goal.decreases-loop-i
-decreases-loop-i l = l.draft.count - l.i

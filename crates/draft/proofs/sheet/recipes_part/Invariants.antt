@@ -12,6 +12,3 @@ invariant-loop-k l =
     × (length l.text ≡ length l.initial.text)
     × (l.end ≡ l.at + recipe_length * l.k)
     × Puts l.initial.text l.at (recipes_part l.batch l.k) l.text l.end
-
-abbrev pub decreases-loop-k : goal.decreases-loop-k
-decreases-loop-k l = l.batch.count - l.k

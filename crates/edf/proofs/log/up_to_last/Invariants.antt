@@ -1,10 +1,7 @@
--- `up_to_last` meets its contract. The loop's invariant is that of the last; the measure is how many entries are left.
+-- `up_to_last` meets its contract. The loop's invariant is that of the last.
 use Prim.Native.Nat.{◌-◌}
 use Rattle.edf.proofs.Scans.{Last}
 use Rattle.edf.proofs.log.up_to_last.Given as goal
 
 abbrev pub invariant-loop-m : goal.invariant-loop-m
 invariant-loop-m l = Last l.position l.log l.last l.m
-
-abbrev pub decreases-loop-m : goal.decreases-loop-m
-decreases-loop-m l = l.m-end - l.m

@@ -1,4 +1,4 @@
--- `run` meets its contract. The loop's invariant is that of `Running`; the measure is how many minutes are left.
+-- `run` meets its contract. The loop's invariant is that of `Running`.
 use Prim.Native.Nat.{◌-◌}
 use Rattle.arrays.specs.Position.{at_position}
 use Rattle.edf.proofs.RunLoop.{Running}
@@ -7,6 +7,3 @@ use Rattle.edf.proofs.run.run.Given as goal
 abbrev pub invariant-loop-m : goal.invariant-loop-m
 invariant-loop-m l =
     Running l.work.count (at_position 0 l.ready) (at_position 0 l.initial.left) l.opening l.m-end l.log l.left l.m
-
-abbrev pub decreases-loop-m : goal.decreases-loop-m
-decreases-loop-m l = l.m-end - l.m

@@ -1,5 +1,4 @@
--- `workload_of` meets its contract. The invariant: below i the arrays have what the choice gives; the measure is how many jobs
--- are left.
+-- `workload_of` meets its contract. The invariant: below i the arrays have what the choice gives.
 use Prim.Native.Nat.{◌-◌}
 use mathlib.Core.Bool.{false, not}
 use lib.ListN.{get_or}
@@ -12,6 +11,3 @@ invariant-loop-i l =
     Padding (λ k. (get_or l.jobs k no_job).ready) max_jobs 0 l.n l.i l.ready
     × Padding (λ k. minutes_of (version_of (get_or l.jobs k no_job) (get_or l.choice k 0))) max_jobs 0 l.n l.i l.minutes
     × Padding (λ k. not (version_of (get_or l.jobs k no_job) (get_or l.choice k 0)).read) max_jobs false l.n l.i l.aside
-
-abbrev pub decreases-loop-i : goal.decreases-loop-i
-decreases-loop-i l = l.n - l.i

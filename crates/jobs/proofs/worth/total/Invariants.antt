@@ -1,10 +1,7 @@
--- `total` meets its contract. The loop's invariant is that of the sum; the measure is how many jobs are left.
+-- `total` meets its contract. The loop's invariant is that of the sum.
 use Prim.Native.Nat.{◌-◌}
 use Rattle.jobs.proofs.Totals.{Totalling}
 use Rattle.jobs.proofs.worth.total.Given as goal
 
 abbrev pub invariant-loop-i : goal.invariant-loop-i
 invariant-loop-i l = Totalling l.jobs l.choice l.n l.sum l.i
-
-abbrev pub decreases-loop-i : goal.decreases-loop-i
-decreases-loop-i l = l.n - l.i

@@ -7,6 +7,3 @@ use Rattle.judge.proofs.batch_fault.worths_fault.Given as goal
 
 abbrev pub invariant-loop-k : goal.invariant-loop-k
 invariant-loop-k l = (l.k ≤ l.n) × (first (worth_fault l.b) l.k (l.n - l.k) ≡ first (worth_fault l.b) 0 l.n)
-
-abbrev pub decreases-loop-k : goal.decreases-loop-k
-decreases-loop-k l = l.n - l.k

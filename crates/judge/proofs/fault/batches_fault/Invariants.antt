@@ -15,8 +15,5 @@ invariant-loop-k l =
 abbrev pub invariant-batches : goal.invariant-batches
 invariant-batches l = Walk l.week l.numbers l.previous l.i
 
-abbrev pub decreases-loop-k : goal.decreases-loop-k
-decreases-loop-k l = l.count - l.k
-
 abbrev pub decreases-batches : goal.decreases-batches
 decreases-batches l = l.n - l.i

@@ -7,6 +7,3 @@ use Rattle.judge.proofs.fault.choice_fault.Given as goal
 
 abbrev pub invariant-loop-i : goal.invariant-loop-i
 invariant-loop-i l = (l.i ≤ l.n) × (first (name_fault l.week l.choice) l.i (l.n - l.i) ≡ choice_fault l.week l.choice)
-
-abbrev pub decreases-loop-i : goal.decreases-loop-i
-decreases-loop-i l = l.n - l.i

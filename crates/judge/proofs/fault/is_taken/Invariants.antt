@@ -9,6 +9,3 @@ use Rattle.judge.proofs.fault.is_taken.Given as goal
 
 abbrev pub invariant-loop-h : goal.invariant-loop-h
 invariant-loop-h l = (l.h ≤ l.n) × (some_below (λ k. eqb (get_or l.numbers k 0) l.number) l.h ≡ false)
-
-abbrev pub decreases-loop-h : goal.decreases-loop-h
-decreases-loop-h l = l.n - l.h

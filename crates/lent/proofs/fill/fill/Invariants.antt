@@ -1,4 +1,4 @@
--- `fill` meets its contract. The loop's invariant is that of an array which is set throughout; the measure is how many bytes are left.
+-- `fill` meets its contract. The loop's invariant is that of an array which is set throughout.
 use Prim.Native.Nat.{◌-◌}
 use lib.ListN.{length}
 use Rattle.arrays.proofs.Stores.{Tabulated}
@@ -6,6 +6,3 @@ use Rattle.lent.proofs.fill.fill.Given as goal
 
 abbrev pub invariant-loop-i : goal.invariant-loop-i
 invariant-loop-i l = Tabulated (λ k. l.value) (length l.initial.lent) 0 l.i l.lent
-
-abbrev pub decreases-loop-i : goal.decreases-loop-i
-decreases-loop-i l = l.i-end - l.i

@@ -8,6 +8,3 @@ use Rattle.planner.proofs.job.job_of.Given as goal
 
 abbrev pub invariant-loop-k : goal.invariant-loop-k
 invariant-loop-k l = Tabulated (version_from l.b) max_recipes no_version l.k l.versions
-
-abbrev pub decreases-loop-k : goal.decreases-loop-k
-decreases-loop-k l = max_recipes - l.k

@@ -8,6 +8,3 @@ use Rattle.planner.proofs.job.jobs_of.Given as goal
 
 abbrev pub invariant-loop-i : goal.invariant-loop-i
 invariant-loop-i l = Tabulated (λ j. job_from l.week.opening (batch_at l.week j)) max_batches no_job l.i l.jobs
-
-abbrev pub decreases-loop-i : goal.decreases-loop-i
-decreases-loop-i l = max_batches - l.i

@@ -1,5 +1,4 @@
--- `read_log` meets its contract. The invariant: below i the array has what the log says of each job; the measure is how many jobs
--- are left.
+-- `read_log` meets its contract. The invariant: below i the array has what the log says of each job.
 use Prim.Native.Nat.{suc, ◌-◌}
 use mathlib.Core.Bool.{false}
 use lib.ListN.{get_or}
@@ -13,6 +12,3 @@ abbrev pub invariant-loop-i : goal.invariant-loop-i
 invariant-loop-i l =
     Padding (λ k. record { outcome = outcome_of (get_or l.aside k false) (get_or l.minutes k 0) l.opening l.log (suc k) })
     max_batches set_aside l.n l.i l.batches
-
-abbrev pub decreases-loop-i : goal.decreases-loop-i
-decreases-loop-i l = l.n - l.i

@@ -1,5 +1,4 @@
--- `shift` meets its contract. The loop's invariant is that of a list of which a range is changed; the measure is how many
--- entries are left.
+-- `shift` meets its contract. The loop's invariant is that of a list of which a range is changed.
 use Prim.Native.Nat.{max}
 use lib.ListN.{get_or}
 use Rattle.arrays.proofs.Patches.{Patching}

@@ -1,4 +1,4 @@
--- `fill_row` meets its contract. The loop's invariant is that of a row; the measure is how many versions are left.
+-- `fill_row` meets its contract. The loop's invariant is that of a row.
 use Rattle.select.proofs.Rows.{Ready, Row}
 use Rattle.select.proofs.row.fill_row.Given as goal
 

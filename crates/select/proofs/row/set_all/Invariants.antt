@@ -1,4 +1,4 @@
--- `set_all` meets its contract. The loop's invariant is that of a row which is set; the measure is how many entries are left.
+-- `set_all` meets its contract. The loop's invariant is that of a row which is set.
 use lib.ListN.{length}
 use Rattle.arrays.proofs.Stores.{Tabulated}
 use Rattle.select.proofs.row.set_all.Given as goal

@@ -1,5 +1,4 @@
--- `settle` meets its contract. The loop's invariant is that of two lists that are written from a third; the measure is how many
--- entries are left.
+-- `settle` meets its contract. The loop's invariant is that of two lists that are written from a third.
 use Rattle.arrays.proofs.Maps.{Mapping}
 use Rattle.select.specs.Word.{score_part, version_part}
 use Rattle.select.proofs.row.settle.Given as goal

@@ -1,5 +1,4 @@
--- `fill` meets its contract. The loop's invariant is that of a table that is filled job by job; the measure is how many jobs are
--- left.
+-- `fill` meets its contract. The loop's invariant is that of a table that is filled job by job.
 use Rattle.select.proofs.Tables.{Filling}
 use Rattle.select.proofs.table.fill.Given as goal
 

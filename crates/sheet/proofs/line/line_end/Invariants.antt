@@ -6,6 +6,3 @@ use Rattle.sheet.proofs.line.line_end.Given as goal
 
 abbrev pub invariant-loop-i : goal.invariant-loop-i
 invariant-loop-i l = (l.start ≤ l.i) × (l.i ≤ length l.sheet) × NoFeed l.sheet l.start l.i
-
-abbrev pub decreases-loop-i : goal.decreases-loop-i
-decreases-loop-i l = length l.sheet - l.i

@@ -8,6 +8,3 @@ use Rattle.text.proofs.put.put.Given as goal
 abbrev pub invariant-loop-i : goal.invariant-loop-i
 invariant-loop-i l =
     (l.i ≤ length l.part) × (length l.text ≡ length l.initial.text) × (l.text ≡ paste l.initial.text l.at l.part l.i)
-
-abbrev pub decreases-loop-i : goal.decreases-loop-i
-decreases-loop-i l = length l.part - l.i

@@ -11,6 +11,3 @@ invariant-loop-i l =
     (l.i ≤ length l.numbers)
     × (length l.text ≡ length l.initial.text)
     × Puts l.initial.text l.at (numbers (take l.i l.numbers)) l.text l.end
-
-abbrev pub decreases-loop-i : goal.decreases-loop-i
-decreases-loop-i l = length l.numbers - l.i

@@ -12,6 +12,3 @@ invariant-loop-i l =
     × (l.out.opening ≡ l.week.opening)
     × (l.out.closing ≡ l.week.closing)
     × (l.out.batches ≡ take l.i l.week.batches ++ drop l.i (replicate max_batches empty_batch))
-
-abbrev pub decreases-loop-i : goal.decreases-loop-i
-decreases-loop-i l = l.n - l.i

@@ -12,6 +12,3 @@ invariant-loop-i l =
     × (l.left.opening ≡ l.week.opening)
     × (l.left.closing ≡ l.week.closing)
     × LeftOut l.number l.week.batches l.i l.count l.left.batches
-
-abbrev pub decreases-loop-i : goal.decreases-loop-i
-decreases-loop-i l = l.n - l.i

@@ -7,6 +7,3 @@ use Rattle.words.proofs.word.word_end.Given as goal
 
 abbrev pub invariant-loop-i : goal.invariant-loop-i
 invariant-loop-i l = (l.start ≤ l.i) × (l.i ≤ length l.line) × Unbroken (part_of l.line l.start l.i)
-
-abbrev pub decreases-loop-i : goal.decreases-loop-i
-decreases-loop-i l = length l.line - l.i

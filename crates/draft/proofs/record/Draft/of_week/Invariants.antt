@@ -13,6 +13,3 @@ invariant-loop-i l =
     × (l.draft.opening ≡ l.week.opening)
     × (l.draft.closing ≡ l.week.closing)
     × (l.draft.batches ≡ take l.i l.week.batches ++ drop l.i (replicate max_kept empty_batch))
-
-abbrev pub decreases-loop-i : goal.decreases-loop-i
-decreases-loop-i l = max_batches - l.i

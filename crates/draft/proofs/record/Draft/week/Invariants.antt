@@ -12,6 +12,3 @@ invariant-loop-i l =
     × (l.week.opening ≡ l.self.opening)
     × (l.week.closing ≡ l.self.closing)
     × Filled no_batch (take max_batches l.self.batches) (λ k. k < l.i) l.week.batches
-
-abbrev pub decreases-loop-i : goal.decreases-loop-i
-decreases-loop-i l = max_batches - l.i
