@@ -52,8 +52,7 @@ pub enum Kind {
     Help,
 }
 
-// A command: its batch and its choice stand beside the kind, and are empty where it has none, since an enum that holds an array is
-// not covered by the borrow checker.
+// A command: its batch and its choice stand beside the kind, and are empty where it has none.
 #[derive(Clone, Copy)]
 pub struct Command {
     pub kind: Kind,
