@@ -1,5 +1,6 @@
 -- `sheet_text` meets its contract: the refusal of the reader, or the lines of its list.
-use mathlib.Core.Path.{◌≡◌, sym, ap, ◌∙◌}
+use native.Mathlib.Omega.{arith}
+use mathlib.Core.Path.{◌≡◌, ap, ◌∙◌}
 use Rattle.sheet.specs.declared.read.Reading.{Reading}
 use Rattle.report.proofs.Reporting.{report_refused, report_read}
 use Rattle.report.proofs.sheet_text.Goals as goal
@@ -16,4 +17,4 @@ returns-then-fault-ne0 c =
 pub returns : goal.returns
 returns c =
     let reading = c.read-reading.ensures in
-    rw (report_read c.args.sheet.now (sym (number_is reading) ∙ c.if-fault-ne0.false), ← reading) c.week_text.ensures
+    rw (report_read c.args.sheet.now (omega (arith, number_is reading)), ← reading) c.week_text.ensures

@@ -1,4 +1,5 @@
 -- `ok_line` meets its contract: the refusal, or `ok` with its line feed.
+use native.Mathlib.Omega.{arith}
 use Rattle.text.specs.Line.{spaced}
 use Rattle.answer.specs.Answer.{ok_text}
 use Rattle.answer.proofs.Answering.{puts_refused, puts_accepted}
@@ -12,4 +13,4 @@ returns-then-refusal-ne0 c =
 pub returns : goal.returns
 unfolding ok_text spaced
 returns c =
-    puts_accepted c.args.refusal _ c.if-refusal-ne0.false c.put.ensures
+    puts_accepted c.args.refusal _ (omega arith) c.put.ensures

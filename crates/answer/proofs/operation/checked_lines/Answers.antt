@@ -14,7 +14,7 @@ pub stretches_line-requires : goal.stretches_line-requires
 stretches_line-requires c =
     let fits = c.requires in
     record {
-      most = fits.most c.if-fault-ne0.false;
+      most = fits.most (omega arith);
       room = omega (arith, fits.room, c.total_line-end.ensures.width, puts-length c.total_line-end.ensures.line);
     }
 
@@ -22,4 +22,4 @@ pub returns : goal.returns
 unfolding check_text
 returns c =
     let fault = c.args.checked.refusal in
-    puts_passed fault c.if-fault-ne0.false c.total_line-end.ensures.line c.stretches_line.ensures
+    puts_passed fault (omega arith) c.total_line-end.ensures.line c.stretches_line.ensures

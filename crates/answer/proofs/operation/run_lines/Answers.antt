@@ -14,7 +14,7 @@ pub outcomes_line-requires : goal.outcomes_line-requires
 outcomes_line-requires c =
     let fits = c.requires in
     record {
-      most = fits.most c.if-fault-ne0.false;
+      most = fits.most (omega arith);
       room = omega (arith, fits.room, c.ran_line-end.ensures.width, puts-length c.ran_line-end.ensures.line);
     }
 
@@ -22,4 +22,4 @@ pub returns : goal.returns
 unfolding run_text
 returns c =
     let fault = c.args.ran.refusal in
-    puts_passed fault c.if-fault-ne0.false c.ran_line-end.ensures.line c.outcomes_line.ensures
+    puts_passed fault (omega arith) c.ran_line-end.ensures.line c.outcomes_line.ensures

@@ -1,6 +1,7 @@
 -- `week_text` meets its contract: the refusal of Choose, or the plan that it answers.
 use borrow.Author.Rules.{rules}
-use mathlib.Core.Path.{◌≡◌, sym, ap, ◌∙◌}
+use native.Mathlib.Omega.{arith}
+use mathlib.Core.Path.{◌≡◌, ap, ◌∙◌}
 use Rattle.planner.specs.declared.choose.Plan.{Plan}
 use Rattle.report.proofs.Reporting.{week_refused, week_planned, printable}
 use Rattle.report.proofs.plan.week_text.Goals as goal
@@ -17,9 +18,9 @@ returns-then-fault-ne0 c =
 pub plan_text-requires : goal.plan_text-requires
 plan_text-requires c =
     let plan = c.choose_week-plan.ensures in
-    (search rules, rw plan (printable c.args.week (sym (number_is plan) ∙ c.if-fault-ne0.false)))
+    (search rules, rw plan (printable c.args.week (omega (arith, number_is plan))))
 
 pub returns : goal.returns
 returns c =
     let plan = c.choose_week-plan.ensures in
-    rw (week_planned c.args.week (sym (number_is plan) ∙ c.if-fault-ne0.false), ← plan) c.plan_text.ensures
+    rw (week_planned c.args.week (omega (arith, number_is plan)), ← plan) c.plan_text.ensures
