@@ -96,6 +96,7 @@ def files(top):
 
 
 WORD = re.compile(r"(?<![\w'-])[A-Za-z][\w']*(?:-[\w']+)*(?![\w'-])")
+COMMENT = re.compile(r"^\s*(?:--|//)")
 # In a document only what is set as code, or names a theorem in a table, is one of these names.
 CODE = re.compile(r"`[^`\n]+`|\[[^\]\[\s]+\]\[")
 
@@ -112,6 +113,14 @@ def main(arguments):
     def turn(text):
         return WORD.sub(lambda m: new.get(m.group(), m.group()), text)
 
+    def turn_line(line):
+        """In a comment a word with a dash may be English: there only one that is set as code is a name."""
+        mark = COMMENT.search(line)
+        if not mark:
+            return turn(line)
+        comment = CODE.sub(lambda m: turn(m.group()), line[mark.start() :])
+        return turn(line[: mark.start()]) + WORD.sub(lambda m: m.group() if "-" in m.group() else new.get(m.group(), m.group()), comment)
+
     def turn_all(text):
         def one(m):
             to = new.get(m.group()) or respelled(m.group())
@@ -127,7 +136,7 @@ def main(arguments):
         elif path.endswith(".edit"):
             turned = turn_all(text)
         else:
-            turned = turn(text)
+            turned = "\n".join(map(turn_line, text.split("\n")))
         if turned != text:
             with open(path, "w", encoding="utf-8") as f:
                 f.write(turned)

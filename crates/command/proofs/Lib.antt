@@ -1,4 +1,5 @@
 pub mod Same
+pub mod Names
 pub mod Lending
 pub mod Choices
 pub mod Shows

@@ -5,7 +5,6 @@
 ghost use Rattle.io.specs.Counts.{IsPrefixLen};
 
 use answer::operation::{AnswerText, check_text, choose_text, run_text};
-use std::io;
 use week::record::{Batch, Recipe, Week};
 
 // Refused by 4, 5 and 9 if it counted.
@@ -52,19 +51,19 @@ fn case_w() -> Week {
     week
 }
 
-fn say(rt: &impl Print, text: AnswerText) -> io::Result<()>
+fn say(rt: &impl Print, text: AnswerText)
     requires { IsPrefixLen text.len text.bytes }
 {
     let bytes = text.bytes;
     let len = text.len;
-    rt.write_all(&bytes[0..len])
+    let _ = rt.write_all(&bytes[0..len]);
 }
 
-fn main(rt: HostRuntime) -> io::Result<()> {
+fn main(rt: HostRuntime) {
     let week = case_w();
     let mut table = [0; 303];
     let mut log = [0; 100];
-    say(&rt, choose_text(week, &mut table))?;
-    say(&rt, check_text(week, b"\x02\x01\x01"))?;
-    say(&rt, run_text(week, b"\x02\x01\x01", &mut log))
+    say(&rt, choose_text(week, &mut table));
+    say(&rt, check_text(week, b"\x02\x01\x01"));
+    say(&rt, run_text(week, b"\x02\x01\x01", &mut log));
 }

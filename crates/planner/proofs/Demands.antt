@@ -111,8 +111,8 @@ module _ (w : Week) (table : List ℕ) (fills : FillsTable (choose_answer w (len
   late_batch i x first last from to =
       late_recipe w (sound w passed_both.0) i x _ first last (choose_fills.entry i x first last from to)
 
--- Run's contract answers `run_answer` and leaves `log_after` on every input. 01: "Run takes any well_formed choice, also one that
--- breaks the rule", of a well_formed list, with a log that 12 does not catch ..
+-- Run's contract answers `run_answer` and leaves `log_after` on every input. 01: "Run takes any well-formed choice, also one that
+-- breaks the rule", of a well-formed list, with a log that 12 does not catch ..
 pub run_runs : (w : Week) (choice : List ℕ) (size : ℕ) →
     ((run_answer w choice size).refusal.number ≡ 0) ↔ (WellFormed w × WellChosen w choice × LongLog w size)
 run_runs w choice size =
@@ -183,7 +183,7 @@ module _ (w : Week) (choice : List ℕ) (list : WellFormed w) (handed : WellChos
       stretch_at (job_list_of w) choice w.closing i ≡ written_stretch w choice i
   stretches_as_written = stretch_written w (sound w list) ((choice_passes w choice).0 handed)
 
-  -- "For a well_formed list, a plan that meets it is passed" ..
+  -- "For a well-formed list, a plan that meets it is passed" ..
   by_rule : check_fault w choice ≡ rule_fault w choice
   by_rule = fault_rule w choice ((handed_passes w choice).1 (list, handed))
 
@@ -346,7 +346,7 @@ module _ (w : Week) (size : ℕ) (planned : (choose_answer w size).refusal.numbe
       let best = plan_chosen w size planned in
       record { chosen = best.0; summed = best.1; in_time = choose_in_time }
 
--- "A well_formed list, with a table long enough (and a recipe buffer long enough, where one is lent), is refused for want of a plan
+-- "A well-formed list, with a table long enough (and a recipe buffer long enough, where one is lent), is refused for want of a plan
 -- exactly when no choice meets the rule" ..
 pub choose_none : (w : Week) (size : ℕ) →
     ((choose_answer w size).refusal.number ≡ 14) ↔ (WellFormed w × LongTable w size × NoPlan w)

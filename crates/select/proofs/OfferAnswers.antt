@@ -1,4 +1,4 @@
--- What the functions of a version's offers answer, by their tests: `due_offer` and `first_offer`.
+-- What the functions of a version's offers answer, by their tests: what `offer` takes, what `due_offer` answers, and `first_offer`.
 use Prim.Native.Nat.{ℕ, ◌+◌, ◌-◌, ◌≤◌, ◌<◌, max}
 use native.Mathlib.Omega.{arith}
 use mathlib.Core.Path.{◌≡◌, refl}
@@ -11,7 +11,7 @@ use Rattle.jobs.specs.declared.model.Version.{Version}
 use Rattle.jobs.specs.declared.model.Job.{Job}
 use Rattle.jobs.specs.Model.{minutes_of}
 use Rattle.select.specs.Word.{word_of}
-use Rattle.select.specs.Row.{first_offer, shifted, due_offer}
+use Rattle.select.specs.Row.{first_offer, shifted, due_offer, Taken}
 
 -- three tests, and what holds where one fails
 module _ (x : ℕ) where
@@ -27,7 +27,20 @@ module _ (x : ℕ) where
 pub minutes_read : (v : Version) → v.read ≡ true → minutes_of v ≡ v.cost
 minutes_read v read = rw read
 
--- what version k, which is v, offers from entry e on, by the three tests
+-- what version k, which is v, takes by `shift`
+module _
+    (v : Version) (k : ℕ) (scores : List ℕ) {x : ℕ} (worded : x ≡ word_of v.worth k)
+    (a b n : ℕ) {words words' : List ℕ}
+  where
+    pub shift_read : v.read ≡ true → Taken (shifted scores v.cost x) a b words words' →
+        Taken (shifted scores (minutes_of v) (word_of v.worth k)) a (cond v.read b n) words words'
+    shift_read read h = rw (read, ← worded) h
+
+    pub shift_aside : v.read ≡ false → Taken (shifted scores 0 x) a n words words' →
+        Taken (shifted scores (minutes_of v) (word_of v.worth k)) a (cond v.read b n) words words'
+    shift_aside aside h = rw (aside, ← worded) h
+
+-- what it offers from entry e on, by the three tests
 module _ (v : Version) (k first e : ℕ) (scores : List ℕ) where
   pub due_passes : v.read ≡ true → first ≤ e → e < length scores →
       due_offer v k first e scores ≡ shifted scores v.cost (word_of v.worth k) e

@@ -124,7 +124,7 @@ module _
 
       -- by what the functions answer
       module _ {start : ℕ} (begins : start ≡ first) where
-        first_high : start < length scores → minutes_of v ≤ start
+        pub first_high : start < length scores → minutes_of v ≤ start
         first_high = rw begins (begins_high j (k + 1) t scores is job.ready job.starts)
 
         -- what `offer` and `due_offer` ask of the version

@@ -1,22 +1,23 @@
 -- The table, job by job: what holds of its rows and of the scores after the first i jobs.
 use Prim.Native.Nat.{ℕ, ◌+◌, ◌*◌, ◌≤◌, ◌<◌}
+use native.Mathlib.Nat.{mul-le-mul_left, mul-le-mul_right}
 use native.Mathlib.Numerals.{add-one}
 use native.Mathlib.Omega.{arith}
 use mathlib.Core.Path.{◌≡◌, refl, sym, ap, ◌∙◌}
 use mathlib.Core.List.{List, [], ◌∷◌, ◌++◌}
 use lib.Seq.{take_at}
-use lib.ListN.{length, get_or, take, drop, replicate, length-append, length-replicate, get_or-replicate}
+use lib.ListN.{length, get_or, take, drop, replicate, length-append, length-take, length-drop, length-replicate, get_or-replicate}
 use Rattle.arrays.specs.Position.{backward}
 use Rattle.arrays.proofs.Places.{length_backward, replicate_low}
 use Rattle.jobs.specs.declared.model.Job.{Job}
 use Rattle.jobs.specs.declared.model.JobList.{JobList}
-use Rattle.jobs.specs.Model.{no_job}
+use Rattle.jobs.specs.Model.{max_jobs, no_job, jobs_of}
 use Rattle.jobs.specs.Best.{best}
 use Rattle.select.specs.Word.{radix, max_word, Low, Packable}
-use Rattle.select.specs.Row.{score, Starts, Scored, FilledRow}
+use Rattle.select.specs.Row.{row_length, score, Starts, Scored, FilledRow}
 use Rattle.select.specs.Table.{filled}
 use Rattle.select.specs.Contract.{Fillable}
-use Rattle.select.proofs.Picks.{filled_none, filled_more}
+use Rattle.select.proofs.Picks.{length_filled, filled_none, filled_more}
 
 -- what the jobs js leave: their scores, which start at entry f, and their rows of picks in a table that was table₀
 pub record AfterJobs (js : List Job) (t w f : ℕ) (table₀ scores table : List ℕ) : Type 0 where
@@ -89,7 +90,36 @@ module _
     count : length (backward no_job list.jobs i) ≡ i
     count = length_backward no_job list.jobs i
 
+    -- the table keeps its length
+    pub filling_size : length table ≡ length table₀
+    filling_size =
+        let long : length (backward no_job list.jobs i) * w ≤ length table₀ =
+        rw count (omega (arith, mul-le-mul_right w h.most, h.fillable.long))
+        in
+        ap length h.after.done ∙ length_filled _ t w table₀ long
+
+    pub filling_room : w ≤ length scores
+    filling_room = omega (arith, h.after.size, length-take w scores)
+
     module _ (more : i < list.count) where
+      -- the row of job i lies in the table
+      pub filling_inside : i * w + w ≤ length table
+      filling_inside = omega (arith, filling_size, mul-le-mul_right w more, h.fillable.long)
+
+      -- its bounds are small numbers
+      pub filling_small : i * w + w ≤ max_jobs * row_length
+      filling_small =
+          omega (
+            arith,
+            mul-le-mul_right w more,
+            mul-le-mul_right w h.fillable.most,
+            mul-le-mul_left max_jobs h.fillable.wide,
+          )
+
+      -- it is lent as the k entries from i * w on
+      pub filling_lent : (k : ℕ) → k ≡ w → length (take k (drop (i * w) table)) ≡ w
+      filling_lent k same = simp (length-take, length-drop) (omega (arith, filling_inside))
+
       -- the scores leave room for a worth more
       pub filling_low : (m : ℕ) → Low (get_or (take w scores) m 0)
       filling_low m = omega (arith, h.after.low m, h.fillable.most, count)
@@ -108,3 +138,6 @@ module _
             room = omega (arith, length-append words' rest');
             after = rw (add-one, take_at scores' rest w filled.size) (after_step h.after i count k same filled);
           }
+
+    pub filling_end : list.count ≤ i → table ≡ filled (jobs_of list) t w table₀
+    filling_end all = let exact : i ≡ list.count = omega (arith, h.most) in rw exact at h.after.done

@@ -23,7 +23,7 @@ use Rattle.jobs.proofs.ChoiceArrays.{length_choice}
 use Rattle.select.specs.declared.choice.BestChoice.{BestChoice}
 use Rattle.select.specs.Table.{entry_at}
 use Rattle.select.specs.Contract.{Readable, best_choice}
-use Rattle.select.proofs.Entries.{Entry, table_entry}
+use Rattle.select.proofs.Entries.{Entry, entry_in, table_entry}
 
 -- the answer, where a choice of the first i jobs goes before the entries of the array from i on
 abbrev completed : List ℕ → ℕ → Option (List ℕ) → BestChoice
@@ -83,6 +83,9 @@ module _
     module _ (more : 0 < i) where
       entry : Entry list t w i x
       entry = record { first = more; last = h.within; from = h.from; to = omega (arith, h.to, h.readable.inside) }
+
+      pub trace_index : entry_at t w i x < length table
+      trace_index = omega (arith, entry_in entry, h.readable.fillable.long)
 
       below : i - 1 < list.count
       below = omega (arith, h.within)

@@ -154,7 +154,7 @@ module _ (sheet picks recipes : List ℕ) where
     call_runs = rw call_writes (choose_runs w (length picks) chosen)
 
 module _ (sheet : List ℕ) (table_size buffer_size : ℕ) where
-  -- "A well_formed list, with a table long enough (and a recipe buffer long enough, where one is lent), is refused for want of a plan
+  -- "A well-formed list, with a table long enough (and a recipe buffer long enough, where one is lent), is refused for want of a plan
   -- exactly when no choice meets the rule" ..
   pub call_none :
       (call_answer sheet table_size buffer_size ≡ minus_of 14)
