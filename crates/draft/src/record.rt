@@ -30,6 +30,7 @@ impl Draft {
     }
 
     // `batch ..`: ‘one batch more, as handed in’.
+    #[tactic(auto, unfolding(crate::specs::Record::with_batch))]
     pub fn with_batch(mut self, batch: Batch) -> Draft
         ensures { result ≡ with_batch self batch }
     {

@@ -2,26 +2,25 @@
 use native.Mathlib.Omega.{arith}
 use mathlib.Core.Path.{◌≡◌, sym, ◌∙◌}
 use lib.ListN.{length}
+use Rattle.week.specs.declared.record.Week.{Week}
+use Rattle.week.specs.declared.refusal.Refusal.{Refusal}
+use Rattle.week.specs.Record.{max_batches}
 use Rattle.week.specs.Written.{batches_of}
-use Rattle.judge.specs.Fault.{WellFormed}
+use Rattle.judge.specs.Fault.{WellFormed, list_fault}
 use Rattle.week.proofs.First.{number_of_lem, refuses_too}
 use Rattle.week.proofs.Owned.{batches_owned}
 use Rattle.week.proofs.Writing.{batches_counted}
 use Rattle.judge.proofs.WellFormed.{list_proper}
 use Rattle.judge.proofs.Sound.{sound}
 use Rattle.book.proofs.Faults.{add_list, add_join, join_full, join_new}
-use Rattle.book.proofs.add.add_fault.Goals.{Else-held-ne0}
 use Rattle.book.proofs.add.add_fault.Goals as goal
 
--- the held list passes
-formed : (c : Else-held-ne0) → WellFormed c.args.list
-formed c = list_proper _ (number_of_lem (sym c.list_fault-held.ensures) ∙ c.if-held-ne0.false)
+-- where the held list passes, it is well formed, and holds as many batches as it counts
+formed : (list : Week) {fault : Refusal} → fault ≡ list_fault list → fault.number ≡ 0 → WellFormed list
+formed list is zero = list_proper list (number_of_lem (sym is) ∙ zero)
 
--- it holds as many batches as it counts
-counted : (c : Else-held-ne0) → length (batches_of c.args.list) ≡ c.args.list.count
-counted c =
-    let list = c.args.list in
-    batches_counted list (batches_owned list _ c.well_formed.0) (sound list (formed c)).most
+counted : (list : Week) → length list.batches ≡ max_batches → WellFormed list → length (batches_of list) ≡ list.count
+counted list long well = batches_counted list long (sound list well).most
 
 pub returns-then-held-ne0 : goal.returns-then-held-ne0
 returns-then-held-ne0 c =
@@ -30,13 +29,17 @@ returns-then-held-ne0 c =
 
 pub returns-then-list-ge-MAX_BATCHES : goal.returns-then-list-ge-MAX_BATCHES
 returns-then-list-ge-MAX_BATCHES c =
-    c.at.ensures
-    ∙ sym (add_join _ _ (formed c.before.before.before) ∙ join_full _ _ _ (omega (arith, counted c.before.before.before, c.if-list-ge-MAX_BATCHES.true)))
+    let list = c.args.list in
+    let well = formed list c.list_fault-held.ensures (omega arith) in
+    let full = counted list (batches_owned list _ c.well_formed.0) well in
+    c.at.ensures ∙ sym (add_join _ _ well ∙ join_full _ _ _ (omega (arith, full)))
 
 pub new_fault-requires : goal.new_fault-requires
-new_fault-requires c = formed c.before.before
+new_fault-requires c = formed _ c.list_fault-held.ensures (omega arith)
 
 pub returns : goal.returns
 returns c =
-    c.new_fault.ensures
-    ∙ sym (add_join _ _ (formed c.before.before.before) ∙ join_new _ _ _ (omega (arith, counted c.before.before.before, c.if-list-ge-MAX_BATCHES.false)))
+    let list = c.args.list in
+    let well = formed list c.list_fault-held.ensures (omega arith) in
+    let room = counted list (batches_owned list _ c.well_formed.0) well in
+    c.new_fault.ensures ∙ sym (add_join _ _ well ∙ join_new _ _ _ (omega (arith, room)))

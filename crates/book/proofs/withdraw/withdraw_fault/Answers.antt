@@ -1,4 +1,5 @@
 -- `withdraw_fault` answers the held list's refusal, then 21.
+use native.Mathlib.Omega.{arith}
 use mathlib.Core.Path.{◌≡◌, sym, ap, ◌∙◌}
 use mathlib.Core.Bool.{Bool, not}
 use Prim.Native.Nat.{ℕ}
@@ -28,8 +29,8 @@ returns-then-held-ne0 c =
 
 pub returns-then-not-is_held : goal.returns-then-not-is_held
 returns-then-not-is_held c =
-    c.at.ensures ∙ sym (number_decides _ _ c.list_fault-held.ensures c.if-held-ne0.false c.is_held.ensures ∙ refused_if_true 21 0 0 (ap not c.if-not-is_held.true))
+    c.at.ensures ∙ sym (number_decides _ _ c.list_fault-held.ensures (omega arith) c.is_held.ensures ∙ refused_if_true 21 0 0 (ap not c.if-not-is_held.true))
 
 pub returns : goal.returns
 returns c =
-    c.none.ensures ∙ sym (number_decides _ _ c.list_fault-held.ensures c.if-held-ne0.false c.is_held.ensures ∙ refused_if_false 21 0 0 (ap not c.if-not-is_held.false))
+    c.none.ensures ∙ sym (number_decides _ _ c.list_fault-held.ensures (omega arith) c.is_held.ensures ∙ refused_if_false 21 0 0 (ap not c.if-not-is_held.false))
