@@ -1,14 +1,11 @@
 use Prim.Native.Nat.{min}
 use native.Mathlib.Omega.{arith}
 use mathlib.Core.Path.{◌≡◌, refl, sym, ap, ◌∙◌}
-use lib.Dec.{eqb}
 use borrow.Author.Rules.{rules}
 use borrow.Author.Tests.{eq-eqb, ne_eqb}
 use Rattle.arrays.specs.Each.{some_below}
 use Rattle.arrays.proofs.Each.{some_below_lem, none_more}
-use Rattle.week.specs.Record.{max_batches, number_at}
-use Rattle.week.specs.Numbers.{is_held}
-use Rattle.week.specs.Written.{batches_of}
+use Rattle.week.specs.Record.{max_batches}
 use Rattle.week.proofs.Owned.{batches_owned}
 use Rattle.book.proofs.Faults.{held_below}
 use Rattle.book.proofs.held.is_held.Goals as goal

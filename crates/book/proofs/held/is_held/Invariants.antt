@@ -1,5 +1,5 @@
 -- `is_held` answers whether a batch of the list has a number. The invariant: none of the first i has.
-use Prim.Native.Nat.{◌≤◌, ◌-◌}
+use Prim.Native.Nat.{◌≤◌}
 use mathlib.Core.Path.{◌≡◌}
 use mathlib.Core.Bool.{false}
 use lib.Dec.{eqb}

@@ -1,5 +1,4 @@
 -- `is_same` meets its contract. The invariant: the words have one length, and their bytes from i on decide.
-use Prim.Native.Nat.{◌-◌}
 use mathlib.Core.Path.{◌≡◌}
 use lib.ListN.{length, drop}
 use Rattle.arrays.specs.Example.{same}

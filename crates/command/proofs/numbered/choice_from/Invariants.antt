@@ -1,5 +1,4 @@
 -- `choice_from` meets its contract. The invariant: the numbers below i are written, and those after them are 0.
-use Prim.Native.Nat.{◌-◌}
 use Rattle.command.proofs.Choices.{Copying}
 use Rattle.command.proofs.numbered.choice_from.Given as goal
 

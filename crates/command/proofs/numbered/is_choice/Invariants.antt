@@ -1,5 +1,5 @@
 -- `is_choice` meets its contract. The invariant: the numbers from i on decide.
-use Prim.Native.Nat.{◌≤◌, ◌-◌}
+use Prim.Native.Nat.{◌≤◌}
 use mathlib.Core.Path.{◌≡◌}
 use lib.ListN.{length, take, drop}
 use Rattle.words.specs.Numbers.{max_kept}

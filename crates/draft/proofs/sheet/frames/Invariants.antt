@@ -1,5 +1,5 @@
 -- `frames` meets its contract: the week's frame, and the loop puts one frame more a turn.
-use Prim.Native.Nat.{◌+◌, ◌-◌, ◌*◌, ◌≤◌}
+use Prim.Native.Nat.{◌+◌, ◌*◌, ◌≤◌}
 use mathlib.Core.Path.{◌≡◌}
 use mathlib.Core.List.{flatten}
 use lib.ListN.{length}

@@ -1,5 +1,4 @@
 -- `changes` meets its contract. The loop's invariant is that of a count.
-use Prim.Native.Nat.{◌-◌}
 use Rattle.edf.specs.Run.{changes_after, changes}
 use Rattle.edf.proofs.Scans.{Counted}
 use Rattle.edf.proofs.log.changes.Given as goal

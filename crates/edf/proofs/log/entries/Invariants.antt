@@ -1,5 +1,4 @@
 -- `entries` meets its contract. The loop's invariant is that of a count.
-use Prim.Native.Nat.{◌-◌}
 use Rattle.edf.specs.Run.{entries}
 use Rattle.edf.proofs.Scans.{Counted}
 use Rattle.edf.proofs.log.entries.Given as goal

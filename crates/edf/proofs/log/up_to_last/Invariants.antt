@@ -1,5 +1,4 @@
 -- `up_to_last` meets its contract. The loop's invariant is that of the last.
-use Prim.Native.Nat.{◌-◌}
 use Rattle.edf.proofs.Scans.{Last}
 use Rattle.edf.proofs.log.up_to_last.Given as goal
 

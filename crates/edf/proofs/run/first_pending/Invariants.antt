@@ -1,5 +1,5 @@
 -- `first_pending` meets its contract. The loop's invariant: of the jobs it has passed none is pending.
-use Prim.Native.Nat.{◌≤◌, ◌-◌}
+use Prim.Native.Nat.{◌≤◌}
 use Rattle.arrays.specs.Position.{at_position}
 use Rattle.edf.specs.Run.{Reads}
 use Rattle.edf.proofs.run.first_pending.Given as goal

@@ -1,5 +1,4 @@
 -- `run` meets its contract. The loop's invariant is that of `Running`.
-use Prim.Native.Nat.{◌-◌}
 use Rattle.arrays.specs.Position.{at_position}
 use Rattle.edf.proofs.RunLoop.{Running}
 use Rattle.edf.proofs.run.run.Given as goal

@@ -1,5 +1,4 @@
 -- `workload_of` meets its contract. The invariant: below i the arrays have what the choice gives.
-use Prim.Native.Nat.{◌-◌}
 use mathlib.Core.Bool.{false, not}
 use lib.ListN.{get_or}
 use Rattle.arrays.proofs.Stores.{Padding}

@@ -1,5 +1,4 @@
 -- `stretch_all` meets its contract. The loop's invariant is that of the pass; the measure is how many jobs are left.
-use Prim.Native.Nat.{◌-◌}
 use Rattle.jobs.proofs.Pass.{Pass}
 use Rattle.jobs.proofs.rule.stretch_all.Given as goal
 

@@ -1,5 +1,4 @@
 use native.Mathlib.Omega.{arith}
-use Prim.Native.Nat.{◌-◌}
 use Rattle.jobs.proofs.ChoiceArrays.{named_version}
 use Rattle.jobs.proofs.Totals.{totalling_start, totalling_step, totalling_end}
 use Rattle.jobs.proofs.worth.total.Goals as goal

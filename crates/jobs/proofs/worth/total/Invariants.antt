@@ -1,5 +1,4 @@
 -- `total` meets its contract. The loop's invariant is that of the sum.
-use Prim.Native.Nat.{◌-◌}
 use Rattle.jobs.proofs.Totals.{Totalling}
 use Rattle.jobs.proofs.worth.total.Given as goal
 

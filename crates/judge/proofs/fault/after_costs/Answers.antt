@@ -1,8 +1,7 @@
 -- `after_costs` answers the first of 8 to 10, from what its three parts answer.
 use Prim.Native.Nat.{ℕ}
-use mathlib.Core.Path.{◌≡◌, refl, sym, ◌∙◌}
+use mathlib.Core.Path.{refl, sym, ◌∙◌}
 use Rattle.week.specs.declared.record.Batch.{Batch}
-use Rattle.judge.specs.BatchFault.{worths_fault}
 use Rattle.judge.specs.Fault.{order_fault}
 use Rattle.week.proofs.First.{Proper, number_of_lem, refuses_too, refused_if_proper, first_of_here, first_of_later, first_of_last}
 use Rattle.judge.proofs.fault.after_costs.Goals as goal

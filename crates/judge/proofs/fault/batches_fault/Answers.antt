@@ -7,12 +7,10 @@ use borrow.Author.Rules.{rules}
 use borrow.Author.Tests.{lt-ltb, le-ltb, eq-eqb, ne_eqb}
 use Rattle.arrays.proofs.Tests.{or_true}
 use Rattle.week.specs.declared.record.Batch.{Batch}
-use Rattle.week.specs.declared.record.Week.{Week}
 use Rattle.week.specs.declared.refusal.Refusal.{Refusal}
 use Rattle.week.specs.Record.{recipe_at, batch_at}
 use Rattle.week.specs.Refusal.{accepted, refused, refused_if, first_of}
 use Rattle.judge.specs.BatchFault.{before_costs, cost_fault}
-use Rattle.judge.specs.Fault.{batch_faults}
 use Rattle.week.proofs.First.{number_of_lem, search_found, search_on, search_over}
 use Rattle.week.proofs.Passes.{first_of_passes}
 use Rattle.judge.proofs.WellFormed.{count_passes}

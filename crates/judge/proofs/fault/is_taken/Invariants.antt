@@ -1,5 +1,5 @@
 -- `is_taken` answers whether one of the first n numbers is the one sought. The invariant: none of the first h is.
-use Prim.Native.Nat.{◌≤◌, ◌-◌}
+use Prim.Native.Nat.{◌≤◌}
 use mathlib.Core.Path.{◌≡◌}
 use mathlib.Core.Bool.{false}
 use lib.ListN.{get_or}

@@ -1,5 +1,4 @@
 -- `fill` meets its contract. The loop's invariant is that of an array which is set throughout.
-use Prim.Native.Nat.{◌-◌}
 use lib.ListN.{length}
 use Rattle.arrays.proofs.Stores.{Tabulated}
 use Rattle.lent.proofs.fill.fill.Given as goal

@@ -1,5 +1,4 @@
 -- `run_end` finds the end of a run. The invariant: the bytes from `start` up to i are of one value.
-use Prim.Native.Nat.{◌-◌}
 use Rattle.lent.proofs.Runs.{Alike}
 use Rattle.lent.proofs.shown.run_end.Given as goal
 

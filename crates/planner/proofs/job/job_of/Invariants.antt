@@ -1,5 +1,4 @@
 -- `job_of` meets its contract. The invariant: the versions below k are those of the recipes.
-use Prim.Native.Nat.{◌-◌}
 use Rattle.arrays.proofs.Stores.{Tabulated}
 use Rattle.jobs.specs.Model.{no_version}
 use Rattle.week.specs.Record.{max_recipes}

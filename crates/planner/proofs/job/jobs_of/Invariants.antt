@@ -1,5 +1,4 @@
 -- `jobs_of` meets its contract. The invariant: the jobs below i are those of the batches.
-use Prim.Native.Nat.{◌-◌}
 use Rattle.arrays.proofs.Stores.{Tabulated}
 use Rattle.jobs.specs.Model.{no_job}
 use Rattle.week.specs.Record.{max_batches, batch_at}

@@ -1,5 +1,5 @@
 -- `read_log` meets its contract. The invariant: below i the array has what the log says of each job.
-use Prim.Native.Nat.{suc, ◌-◌}
+use Prim.Native.Nat.{suc}
 use mathlib.Core.Bool.{false}
 use lib.ListN.{get_or}
 use Rattle.arrays.proofs.Stores.{Padding}

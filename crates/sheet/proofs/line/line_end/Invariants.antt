@@ -1,5 +1,5 @@
 -- `line_end` finds the end of a line. The invariant: no line feed from `start` up to i.
-use Prim.Native.Nat.{◌≤◌, ◌-◌}
+use Prim.Native.Nat.{◌≤◌}
 use lib.ListN.{length}
 use Rattle.sheet.proofs.Lines.{NoFeed}
 use Rattle.sheet.proofs.line.line_end.Given as goal

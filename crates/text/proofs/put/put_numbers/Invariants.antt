@@ -1,5 +1,5 @@
 -- `put_numbers` meets its contract: the loop puts one number a turn.
-use Prim.Native.Nat.{◌-◌, ◌≤◌}
+use Prim.Native.Nat.{◌≤◌}
 use mathlib.Core.Path.{◌≡◌}
 use lib.ListN.{length, take}
 use Rattle.text.specs.Contract.{Puts}

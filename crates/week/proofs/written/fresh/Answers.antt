@@ -1,7 +1,7 @@
-use Prim.Native.Nat.{◌-◌, ◌<◌, min}
+use Prim.Native.Nat.{◌<◌, min}
 use native.Mathlib.Omega.{arith}
 use mathlib.Core.Path.{◌≡◌, sym, ap, ◌∙◌}
-use lib.ListN.{length, replicate, length-replicate}
+use lib.ListN.{replicate, length-replicate}
 use Rattle.arrays.proofs.Front.{front_step, front_padded}
 use Rattle.week.specs.declared.record.Week.{Week}
 use Rattle.week.specs.Record.{max_batches, empty_batch, no_batch}

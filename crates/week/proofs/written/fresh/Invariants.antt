@@ -1,5 +1,5 @@
 -- `fresh` writes the same batches. The invariant: the week's minutes stand, and of its batches the first i.
-use Prim.Native.Nat.{◌-◌, ◌≤◌}
+use Prim.Native.Nat.{◌≤◌}
 use mathlib.Core.Path.{◌≡◌}
 use mathlib.Core.List.{◌++◌}
 use lib.ListN.{take, drop, replicate}

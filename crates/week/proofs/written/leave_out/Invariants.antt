@@ -1,6 +1,6 @@
 -- `leave_out` leaves out the batches of a number. The invariant: the week's minutes stand, and of its first i batches the others stand
 -- in the first places.
-use Prim.Native.Nat.{◌-◌, ◌≤◌}
+use Prim.Native.Nat.{◌≤◌}
 use mathlib.Core.Path.{◌≡◌}
 use Rattle.week.proofs.LeftOut.{LeftOut}
 use Rattle.week.proofs.written.leave_out.Given as goal

@@ -1,5 +1,4 @@
 -- `number_of` meets its contract. The invariant: the digits before i are read, and spell `value`.
-use Prim.Native.Nat.{◌-◌}
 use Rattle.words.proofs.Spelling.{Spelling}
 use Rattle.words.proofs.number.number_of.Given as goal
 

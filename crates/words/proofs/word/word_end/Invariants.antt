@@ -1,5 +1,5 @@
 -- `word_end` finds the first space. The invariant: no byte from `start` up to i is one.
-use Prim.Native.Nat.{◌≤◌, ◌-◌}
+use Prim.Native.Nat.{◌≤◌}
 use lib.ListN.{length}
 use Rattle.words.specs.Word.{Unbroken}
 use Rattle.words.specs.Contract.{part_of}

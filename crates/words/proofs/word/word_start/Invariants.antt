@@ -1,5 +1,4 @@
 -- `word_start` finds the first byte that is no space. The invariant: the words from `at` on are those from i on.
-use Prim.Native.Nat.{◌-◌}
 use mathlib.Core.Path.{◌≡◌}
 use lib.ListN.{drop}
 use Rattle.words.specs.Word.{words_of}

@@ -1,6 +1,6 @@
 use native.Mathlib.Omega.{arith}
 use mathlib.Core.Path.{◌≡◌, ap, ◌∙◌}
-use lib.ListN.{length, replicate, length-replicate}
+use lib.ListN.{replicate, length-replicate}
 use lib.Seq.{take_all}
 use Rattle.arrays.specs.Made.{padded}
 use Rattle.arrays.proofs.Front.{front_step, front_padded}

@@ -1,5 +1,5 @@
 -- `Draft::of_week` answers a list by value as one that is written down. The invariant: the minutes stand, and of the batches the first i.
-use Prim.Native.Nat.{◌-◌, ◌≤◌}
+use Prim.Native.Nat.{◌≤◌}
 use mathlib.Core.Path.{◌≡◌}
 use mathlib.Core.List.{◌++◌}
 use lib.ListN.{take, drop, replicate}

@@ -1,5 +1,5 @@
 -- `Draft::week` answers the list that is handed in. The invariant: the week's minutes stand, and of its batches those below i.
-use Prim.Native.Nat.{◌-◌, ◌≤◌, ◌<◌}
+use Prim.Native.Nat.{◌≤◌, ◌<◌}
 use mathlib.Core.Path.{◌≡◌}
 use lib.ListN.{take}
 use Rattle.arrays.proofs.Stores.{Filled}
