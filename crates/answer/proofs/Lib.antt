@@ -1,3 +1,4 @@
-pub mod Each
 pub mod Named
+pub mod Widths
+pub mod Each
 pub mod Answering

@@ -1,11 +1,10 @@
 -- Words with a number after each, in the order in which they are put into a line.
-use Prim.Native.Nat.{ℕ, ◌+◌}
-use mathlib.Core.Path.{◌≡◌, ap, ◌∙◌}
-use mathlib.Core.List.{List, [], ◌∷◌, ◌++◌, append_assoc, append-nil}
-use lib.ListN.{length, length-append}
+use Prim.Native.Nat.{ℕ}
+use mathlib.Core.Path.{◌≡◌, ap}
+use mathlib.Core.List.{List, [], ◌∷◌, ◌++◌, append-nil}
 use Rattle.arrays.specs.Text.{bytes, line_feed, space}
 use Rattle.text.specs.Decimal.{decimal}
-use Rattle.text.specs.Line.{spaced, line_of}
+use Rattle.text.specs.Line.{spaced}
 use Rattle.text.proofs.Spacing.{rest_more, rest_none}
 use Rattle.answer.specs.Line.{ran_line}
 
@@ -18,15 +17,7 @@ pub named_fields : (word : List ℕ) (n : ℕ) → spaced (word ∷ decimal n �
 unfolding spaced
 named_fields word n = ap (λ (l : List ℕ). (space ∷ word) ++ l) (append-nil (space ∷ decimal n))
 
--- a line of one
-pub named_parts : (word : List ℕ) (n : ℕ) → line_of word (decimal n ∷ []) ≡ named word n ++ (line_feed ∷ [])
-named_parts word n = simp (rest_more, rest_none, append_assoc)
-
--- the bytes of the two
-pub named_size : (word : List ℕ) (n : ℕ) → length (line_of word (decimal n ∷ [])) ≡ length (named word n) + 1
-named_size word n = ap length (named_parts word n) ∙ length-append (named word n) (line_feed ∷ [])
-
--- and of two
+-- a line of two
 pub ran_parts : (changes idle : ℕ) →
     ran_line changes idle ≡ named (bytes "ran changes") changes ++ (named (bytes " idle") idle ++ (line_feed ∷ []))
 unfolding ran_line

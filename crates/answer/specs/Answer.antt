@@ -1,31 +1,29 @@
 -- What weekdesk answers where an operation is asked, and where a line is no command: docs/WEEKDESK.md.
-use Rattle.std.specs.Prelude.{ℕ, ◌+◌, List, [], ◌∷◌, ◌++◌, length, take}
+use Rattle.std.specs.Prelude.{ℕ, ◌+◌, List, [], ◌∷◌, ◌++◌, take}
 use Rattle.arrays.specs.Text.{bytes}
-use Rattle.arrays.specs.Made.{padded}
 use Rattle.week.specs.declared.refusal.Refusal.{Refusal}
 use Rattle.week.specs.Refusal.{answer_by}
-use Rattle.planner.specs.declared.check.Checked.{Checked}
-use Rattle.planner.specs.declared.choose.Plan.{Plan}
-use Rattle.planner.specs.declared.run.WeekRun.{WeekRun}
+use Rattle.planner.specs.Check.{CheckAnswer}
+use Rattle.planner.specs.Choose.{ChooseAnswer}
+use Rattle.planner.specs.Run.{RunAnswer}
 use Rattle.text.specs.Decimal.{decimal}
 use Rattle.text.specs.Line.{line_of, refusal_line}
-use Rattle.answer.specs.declared.operation.AnswerText.{AnswerText}
 use Rattle.answer.specs.Line.{total_line, ran_line, recipes_line, stretches_line, outcomes_line, ran_width, batches_width}
 
 -- `choose`, and `plan`, which answers ‘as `choose`’: ‘`plan TOTAL`, then `recipes K K ..`’, for a list of n batches; ‘A refusal is
 -- answered `refused N P R` and nothing else.’
-unfoldable pub plan_text : ℕ → Plan → List ℕ
+unfoldable pub plan_text : ℕ → ChooseAnswer → List ℕ
 plan_text n plan =
     answer_by plan.refusal refusal_line (total_line (bytes "plan") plan.total ++ recipes_line (take n plan.choice))
 
 -- `check`: ‘`passed TOTAL`, then `stretches S E S E ..`’
-unfoldable pub check_text : ℕ → Checked → List ℕ
+unfoldable pub check_text : ℕ → CheckAnswer → List ℕ
 check_text n checked =
     answer_by checked.refusal refusal_line
     (total_line (bytes "passed") checked.total ++ stretches_line (take n checked.stretches))
 
 -- `run`: ‘`ran changes N idle N`, then `outcomes ..`’
-unfoldable pub run_text : ℕ → WeekRun → List ℕ
+unfoldable pub run_text : ℕ → RunAnswer → List ℕ
 run_text n ran =
     answer_by ran.refusal refusal_line (ran_line ran.changes ran.idle ++ outcomes_line (take n ran.batches))
 
@@ -40,7 +38,3 @@ no_command_text line = line_of (bytes "no command: line") (decimal line ∷ [])
 -- the longest answer: that of a run
 abbrev pub max_answer : ℕ
 max_answer = ran_width + batches_width
-
--- by value: the text, with 0 beyond it, and its length
-abbrev pub text_of : List ℕ → AnswerText
-text_of text = record { bytes = padded max_answer 0 text; len = length text }

@@ -1,4 +1,3 @@
 pub mod Line
 pub mod Answer
-pub mod Contract
 pub mod Examples

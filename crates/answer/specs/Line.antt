@@ -6,7 +6,6 @@ use Rattle.jobs.specs.declared.rule.Stretch.{Stretch}
 use Rattle.edf.specs.declared.outcome.Outcome.{Outcome}
 use Rattle.edf.specs.declared.outcome.Outcome.TheVariants.{SetAside, Finished, Unfinished}
 use Rattle.week.specs.Record.{max_batches}
-use Rattle.planner.specs.declared.run.BatchRun.{BatchRun}
 use Rattle.text.specs.Decimal.{decimal}
 use Rattle.text.specs.Line.{line_of}
 
@@ -42,11 +41,8 @@ outcome_fields SetAside = bytes "aside" ∷ []
 outcome_fields (Finished minute) = bytes "finished" ∷ decimal minute ∷ []
 outcome_fields (Unfinished left) = bytes "unfinished" ∷ decimal left ∷ []
 
-abbrev pub run_fields : BatchRun → List (List ℕ)
-run_fields run = outcome_fields run.outcome
-
-unfoldable pub outcomes_line : List BatchRun → List ℕ
-outcomes_line = each_line (bytes "outcomes") run_fields
+unfoldable pub outcomes_line : List Outcome → List ℕ
+outcomes_line = each_line (bytes "outcomes") outcome_fields
 
 -- the widest first lines, line feeds counted: `passed 4294967295`; `ran changes 65535 idle 65535`
 abbrev pub total_width : ℕ

@@ -1,62 +1,44 @@
-// The lines that a plan, a check and a run begin with, and those that are an answer alone.
-ghost use Rattle.std.specs.Prelude.{◌≤◌, [], ◌∷◌, length};
-ghost use Rattle.text.specs.Decimal.{decimal};
-ghost use Rattle.text.specs.Line.{line_of};
-ghost use Rattle.text.specs.Contract.{Puts};
+// The lines that a plan, a check and a run begin with, and how long an answer is.
+ghost use Rattle.std.specs.Prelude.{◌≡◌, ◌+◌, ◌≤◌, ◌++◌, length};
 ghost use Rattle.answer.specs.Line.{total_line, ran_line, total_width, ran_width};
-ghost use Rattle.answer.specs.Answer.{ok_text, no_command_text, max_answer};
+ghost use Rattle.answer.specs.Answer.{max_answer};
 
-use text::line::refusal_line;
-use text::put::{put, put_named};
-use week::refusal::Refusal;
+use text::Text;
+use week::record::Week;
 
 // The widest first line: `ran changes 65535 idle 65535`, its line feed counted.
-pub(crate) const RAN_WIDTH: usize = 29;
+const RAN_WIDTH: usize = 29;
 
-// A word and a number after it, as a line from the start of the text on.
-fn named_line(text: &mut [u8], word: &[u8], n: u64) -> usize
-    requires { length (line_of word.now (decimal n ∷ [])) ≤ length text.old }
-    ensures { Puts text.old 0 (line_of word.now (decimal n ∷ [])) text.new result }
-{
-    let end = put_named(&mut *text, 0, word, n);
-    put(text, end, b"\n")
-}
+// The widest of a batch's fields, with the spaces before them: ` unfinished 65535`.
+const OUTCOME_WIDTH: usize = 17;
+
+// The widest second line, its line feed counted: `outcomes`, and sixteen batches that are unfinished.
+const BATCHES_WIDTH: usize = 9 + Week::MAX_BATCHES * OUTCOME_WIDTH;
+
+// The longest answer: that of a run.
+pub const MAX_ANSWER: usize = RAN_WIDTH + BATCHES_WIDTH;
+
+pub type AnswerText = Text<MAX_ANSWER>;
 
 // `plan TOTAL`, `passed TOTAL`: a word of at most six bytes, and a total.
-pub(crate) fn total_line(text: &mut [u8], word: &[u8], total: u32) -> usize
-    requires { (length word.now ≤ 6) × (total_width ≤ length text.old) }
-    ensures line { Puts text.old 0 (total_line word.now total) text.new result }
-    ensures width { result ≤ total_width }
+#[tactic(auto, using(std::proofs::lemmas::Grind::common_steps, crate::proofs::Widths::total_short), unfolding(crate::specs::Line::total_line))]
+pub(crate) fn total_line(text: &mut AnswerText, word: &[u8], total: u32)
+    requires { (length word.now ≤ 6) × (length text.old + total_width ≤ max_answer) }
+    ensures line { text.new ≡ text.old ++ total_line word.now total }
+    ensures width { length text.new ≤ length text.old + total_width }
 {
-    named_line(text, word, total as u64)
+    text.put(word);
+    text.rest(&[total]);
 }
 
 // `ran changes N idle N`
-pub(crate) fn ran_line(text: &mut [u8], changes: u16, idle: u16) -> usize
-    requires { ran_width ≤ length text.old }
-    ensures line { Puts text.old 0 (ran_line changes idle) text.new result }
-    ensures width { result ≤ ran_width }
+#[tactic(auto, using(std::proofs::lemmas::Grind::common_steps, crate::proofs::Widths::decimal_five), unfolding(crate::specs::Line::ran_line, text::specs::Line::spaced))]
+pub(crate) fn ran_line(text: &mut AnswerText, changes: u16, idle: u16)
+    requires { length text.old + ran_width ≤ max_answer }
+    ensures line { text.new ≡ text.old ++ ran_line changes idle }
+    ensures width { length text.new ≤ length text.old + ran_width }
 {
-    let mut end = put_named(&mut *text, 0, b"ran changes", changes as u64);
-    end = put_named(&mut *text, end, b" idle", idle as u64);
-    put(text, end, b"\n")
-}
-
-// `ok`, or the refusal.
-pub(crate) fn ok_line(text: &mut [u8], refusal: Refusal) -> usize
-    requires { max_answer ≤ length text.old }
-    ensures { Puts text.old 0 (ok_text refusal) text.new result }
-{
-    if refusal.number != 0 {
-        return refusal_line(text, 0, refusal);
-    }
-    put(text, 0, b"ok\n")
-}
-
-// `no command: line N`
-pub(crate) fn no_command_line(text: &mut [u8], line: u64) -> usize
-    requires { max_answer ≤ length text.old }
-    ensures { Puts text.old 0 (no_command_text line) text.new result }
-{
-    named_line(text, b"no command: line", line)
+    text.put_named(b"ran changes", changes);
+    text.put_named(b" idle", idle);
+    text.put(b"\n");
 }

@@ -23,15 +23,12 @@ use Rattle.week.proofs.Ordering.{ordered_perm, ordered_only}
 use Rattle.judge.specs.Fault.{week_fault, list_fault, WellFormed}
 use Rattle.judge.specs.Fit.{Fit}
 use Rattle.judge.proofs.WellFormed.{minutes_passes}
-use Rattle.planner.specs.declared.choose.Plan.{Plan}
-use Rattle.planner.specs.Choose.{refused_plan, choose_answer, table_after}
+use Rattle.planner.specs.Choose.{ChooseAnswer, refused_plan, choose_answer, table_after}
 use Rattle.planner.proofs.Choosing.{choose_refusal, fill_list, plan_refused as choose-refused}
 use Rattle.book.specs.declared.book.Book.{Book}
-use Rattle.book.specs.declared.book.Answered.{Answered}
-use Rattle.book.specs.declared.plan.Planned.{Planned}
 use Rattle.book.specs.Fault.{open_fault, join_fault, leave_fault}
 use Rattle.book.specs.Joins.{Joins}
-use Rattle.book.specs.Answer.{empty_book, held_in, hands_back, open_answer, add_answer, withdraw_answer, plan_answer}
+use Rattle.book.specs.Answer.{CallAnswer, PlanAnswer, empty_book, held_in, hands_back, open_answer, add_answer, withdraw_answer, plan_answer}
 use Rattle.book.specs.History.{Call, adds, withdraws, plans, after_call, after_calls, collected}
 use Rattle.book.proofs.Faults.{add_list, add_join, add_passes, withdraw_list, withdraw_leave, withdraw_passes}
 use Rattle.book.proofs.Joining.{join_passes, leave_passes}
@@ -139,7 +136,7 @@ pub held_refused : (book : Book) → ((list_fault book.list).number ≡ 0 → �
 unfolding refused_plan
 held_refused book n size =
     let w = book.list in
-    let fault = sym (ap (λ (p : Plan). p.refusal) (choose-refused w size (fill_list w size n) n)) in
+    let fault = sym (ap (λ (p : ChooseAnswer). p.refusal) (choose-refused w size (fill_list w size n) n)) in
     let refuses = refuses_too fault n in
     record {
       adds = λ b. (add_answers book b).refused (add_list w b n ∙ fault) refuses;
@@ -171,13 +168,13 @@ empty_stays [] = refl
 empty_stays (call ∷ calls) = ap (after_calls calls) (after call) ∙ empty_stays calls
   where
     after : (call : Call) → after_call call (empty_book 0 0) ≡ empty_book 0 0
-    after (adds b) = ap (λ (a : Answered). a.book) ((empty_refuses 0).adds b)
-    after (withdraws number) = ap (λ (a : Answered). a.book) ((empty_refuses 0).withdraws number)
-    after (plans table) = ap (λ (p : Planned). p.book) (empty_refuses (length table)).plans
+    after (adds b) = ap (λ (a : CallAnswer). a.book) ((empty_refuses 0).adds b)
+    after (withdraws number) = ap (λ (a : CallAnswer). a.book) ((empty_refuses 0).withdraws number)
+    after (plans table) = ap (λ (p : PlanAnswer). p.book) (empty_refuses (length table)).plans
 
 pub history_refused : (t c : ℕ) → ((open_fault t c).number ≡ 0 → ⊥) → (calls : List Call) →
     after_calls calls (open_answer t c).book ≡ empty_book 0 0
-history_refused t c n calls = ap (λ (a : Answered). after_calls calls a.book) (open_refused t c n) ∙ empty_stays calls
+history_refused t c n calls = ap (λ (a : CallAnswer). after_calls calls a.book) (open_refused t c n) ∙ empty_stays calls
 
 -- .. "and, unless it is the held list that is refused, names place 0"
 abbrev InPlace0 : Refusal → Type 0

@@ -1,20 +1,22 @@
 -- The book's refusals: which of them decides, and what an accepted call tells of the held list.
-use Prim.Native.Nat.{ℕ, ◌≤◌, ◌<◌, min}
+use Prim.Native.Nat.{ℕ, ◌≤◌, ◌<◌}
 use native.Mathlib.Decide.{ℕ_discrete}
 use native.Mathlib.Omega.{arith}
 use mathlib.Core.Path.{◌≡◌, refl, sym, ap, ◌∙◌}
+use mathlib.Core.Bool.{true, false, not}
+use Rattle.std.proofs.Common.{Result, Ok, Err}
+use Rattle.std.specs.Result.{MatchResult, IsErrAnd}
 use mathlib.Core.List.{List, [], ◌∷◌}
 use lib.ListN.{length}
-use lib.Dec.{eqb}
-use lib.Seq.{get_or-take}
 use borrow.Author.Tests.{le-leb, lt-leb, le-ltb, eq-eqb, ne_eqb}
 use Rattle.arrays.specs.Each.{some_below}
-use Rattle.arrays.proofs.Each.{below_same}
 use Rattle.week.specs.declared.record.Batch.{Batch}
 use Rattle.week.specs.declared.record.Week.{Week}
+use Rattle.week.specs.declared.refusal.Fault.{Fault}
 use Rattle.week.specs.declared.refusal.Refusal.{Refusal}
-use Rattle.week.specs.Record.{max_batches, empty_week, no_batch, number_at}
+use Rattle.week.specs.Record.{max_batches, empty_week}
 use Rattle.week.specs.Refusal.{accepted, refused, refused_if, first_of, first, at_place}
+use Rattle.week.specs.Fault.{numbers, place_in, refusal_of}
 use Rattle.week.specs.Order.{Sorted}
 use Rattle.week.specs.Numbers.{number_in, is_held}
 use Rattle.week.specs.Written.{batches_of, written}
@@ -24,12 +26,14 @@ use Rattle.book.specs.Fault.{open_fault, new_faults, join_fault, leave_fault, ad
 use Rattle.week.proofs.First.{Proper, number_of_lem, refuses, refused_if_true, refused_if_false, refused_if_proper}
 use Rattle.week.proofs.First.{place_refused, place_number, place_each, first_of_here, first_of_later, first_of_none, first_of_last}
 use Rattle.week.proofs.First.{first_of_proper, append_first, append_last, append_accepted, first_proper}
+use Rattle.week.proofs.Faults.{fault_refuses}
 use Rattle.week.proofs.Passes.{first_of_passes, append_passes}
 use Rattle.week.proofs.Ordering.{in_order_sorted}
-use Rattle.week.proofs.Writing.{placed_counted}
+use Rattle.week.proofs.Writing.{batches_counted}
 use Rattle.judge.proofs.WellFormed.{minutes_passes, list_proper}
 use Rattle.judge.proofs.Sound.{sound}
 use Rattle.judge.proofs.Fit.{list_fit}
+use Rattle.book.proofs.Named.{new_each}
 
 -- ---- the minutes of a week
 -- of at most 16 batches 3 does not hold, so that 1 and 2 decide
@@ -61,7 +65,7 @@ placed_proper : (place : ℕ) (rs : List Refusal) → Proper (at_place place (fi
 placed_proper place rs = rw (place_each place rs) (first_of_proper _)
 
 -- what a list of it has against it, in place 1: 10 never holds of the first batch
-pub alone_fault : (t c : ℕ) (b : Batch) → open_fault t c ≡ accepted →
+alone_fault : (t c : ℕ) (b : Batch) → open_fault t c ≡ accepted →
     list_fault (written t c (b ∷ [])) ≡ at_place 1 (first_of (new_faults c [] b))
 unfolding list_fault first batch_fault first_of number_fault order_fault refused_if some_below
 alone_fault t c b minutes =
@@ -69,6 +73,25 @@ alone_fault t c b minutes =
     first_of_last (week_fault w) (first (batch_fault w) 0 1) (number_of_lem (minutes_decide w (omega arith) ∙ minutes))
     (first_proper (batch_fault w) 0 1)
     ∙ append_last [] (batch_fault w 0) (placed_proper 1 (batch_faults w 0)) refl ∙ ap (at_place 1) (append_accepted (new_faults c [] b))
+
+-- so what refuses that list refuses the batch, in no place
+module _ (t c : ℕ) (b : Batch) (minutes : open_fault t c ≡ accepted) where
+  out_of_place : (f : Fault) → numbers f ≡ list_fault (written t c (b ∷ [])) → numbers (place_in 0 f) ≡ first_of (new_faults c [] b)
+  out_of_place f same =
+      let placed : numbers f ≡ at_place 1 (first_of (new_faults c [] b)) = same ∙ alone_fault t c b minutes in
+      let alone = first_of (new_faults c [] b) in
+      let some : alone.number ≡ 0 → ⊥ = λ z. fault_refuses f (number_of_lem placed ∙ place_number 1 alone ∙ z) in
+      let none = new_each (λ (r : Refusal). r.place ≡ 0) refl (λ _ _ _. refl) c [] b in
+      ap (λ (r : Refusal). refused r.number 0 r.recipe) (placed ∙ place_refused 1 alone some)
+      ∙ ap (λ (p : ℕ). refused alone.number p alone.recipe) (sym none)
+
+  pub unplaced : (r s : Result (Unit {0}) Fault) → refusal_of r ≡ list_fault (written t c (b ∷ [])) →
+      MatchResult r (λ x. s ≡ Ok x) (λ e. IsErrAnd s (λ f. f ≡ place_in 0 e)) → refusal_of s ≡ first_of (new_faults c [] b)
+  unplaced (Ok x) s same is =
+      let passed = number_of_lem (sym (same ∙ alone_fault t c b minutes)) in
+      ap refusal_of is ∙ sym (first_of_proper _ (sym (place_number 1 _) ∙ passed))
+  unplaced (Err e) (Ok y) same is = absurd is
+  unplaced (Err e) (Err f) same is = ap numbers is ∙ out_of_place e same
 
 -- ---- a batch that is new to others
 number_proper : (numbers : ℕ → ℕ) (n : ℕ) (b : Batch) → Proper (number_fault numbers n b)
@@ -112,12 +135,19 @@ module _ (c : ℕ) (b : Batch) where
       ]
 
   -- where nothing does, a number that is held decides
-  pub new_held : (bs : List Batch) → (first_of (new_faults c [] b)).number ≡ 0 →
+  new_held : (bs : List Batch) → (first_of (new_faults c [] b)).number ≡ 0 →
       first_of (new_faults c bs b) ≡ refused_if 9 0 0 (is_held b.number bs)
   new_held bs z =
       let parts = (append_passes (own_faults c b) (number_fault (number_in []) 0 b ∷ [])).0 z in
       let number = (first_of_none _ [] parts.1).0 in
       number_decides parts.0 bs ∙ number_some b (λ e. refuses 9 refl (number_zero b e (number_in []) 0) number) bs
+
+  module _ (bs : List Batch) (fine : first_of (new_faults c [] b) ≡ accepted) where
+    pub new_taken : is_held b.number bs ≡ true → first_of (new_faults c bs b) ≡ refused 9 0 0
+    new_taken held = new_held bs (number_of_lem fine) ∙ refused_if_true 9 0 0 held
+
+    pub new_free : is_held b.number bs ≡ false → first_of (new_faults c bs b) ≡ accepted
+    new_free free = new_held bs (number_of_lem fine) ∙ refused_if_false 9 0 0 free
 
 -- ---- what joins and what leaves
 module _ (c : ℕ) (bs : List Batch) (b : Batch) where
@@ -153,6 +183,17 @@ module _ (w : Week) (b : Batch) where
   unfolding add_fault
   add_passes z = let both = (first_of_passes _).0 z in (list_proper w both.0, both.1.0)
 
+  -- of a list whose array has its length: 20 where it is full, else what the new batch is refused for
+  module _ (long : length w.batches ≡ max_batches) (list : WellFormed w) where
+    counted : length (batches_of w) ≡ w.count
+    counted = batches_counted w long (sound w list).most
+
+    pub add_full : max_batches ≤ w.count → add_fault w b ≡ refused 20 0 0
+    add_full full = add_join list ∙ join_full w.closing (batches_of w) b (omega (arith, counted))
+
+    pub add_new : w.count < max_batches → add_fault w b ≡ first_of (new_faults w.closing (batches_of w) b)
+    add_new room = add_join list ∙ join_new w.closing (batches_of w) b (omega (arith, counted))
+
 module _ (w : Week) (number : ℕ) where
   pub withdraw_list : ((list_fault w).number ≡ 0 → ⊥) → withdraw_fault w number ≡ list_fault w
   unfolding withdraw_fault
@@ -162,26 +203,25 @@ module _ (w : Week) (number : ℕ) where
   unfolding withdraw_fault
   withdraw_leave list = first_of_last _ _ (number_of_lem list) (leave_proper (batches_of w) number)
 
+  pub withdraw_gone : WellFormed w → is_held number (batches_of w) ≡ false → withdraw_fault w number ≡ refused 21 0 0
+  unfolding leave_fault
+  withdraw_gone list gone = withdraw_leave list ∙ refused_if_true 21 0 0 (ap not gone)
+
+  pub withdraw_held : WellFormed w → is_held number (batches_of w) ≡ true → withdraw_fault w number ≡ accepted
+  unfolding leave_fault
+  withdraw_held list held = withdraw_leave list ∙ refused_if_false 21 0 0 (ap not held)
+
   pub withdraw_passes : (withdraw_fault w number).number ≡ 0 → WellFormed w × ((leave_fault (batches_of w) number).number ≡ 0)
   unfolding withdraw_fault
   withdraw_passes z = let both = (first_of_passes _).0 z in (list_proper w both.0, both.1.0)
 
--- ---- a refusal in a place, without it
-pub out_of_place : (place : ℕ) (r : Refusal) → r.place ≡ 0 → ((at_place place r).number ≡ 0 → ⊥) →
-    refused (at_place place r).number 0 (at_place place r).recipe ≡ r
-out_of_place place r none n =
-    ap (λ (s : Refusal). refused s.number 0 s.recipe) (place_refused place r (λ z. n (place_number place r ∙ z)))
-    ∙ ap (λ (p : ℕ). refused r.number p r.recipe) (sym none)
-
--- ---- a number that is held, by index
-pub held_below : (w : Week) → length w.batches ≡ max_batches → (number : ℕ) →
-    is_held number (batches_of w) ≡ some_below (λ i. eqb (number_at w i) number) (min w.count max_batches)
-unfolding is_held
-held_below w long number =
-    ap (some_below _) (placed_counted w long)
-    ∙ below_same _ _ (min w.count max_batches)
-    (λ i l. ap (λ (b : Batch). eqb b.number number) (get_or-take w.count w.batches i no_batch (omega arith)))
-
 -- ---- a held list that is well formed stands in order
 pub well_sorted : (w : Week) → length w.batches ≡ max_batches → WellFormed w → Sorted w.opening (batches_of w)
 well_sorted w long list = in_order_sorted w.opening (batches_of w) ((list_fit w long).0 list).2
+
+-- ---- what decides of a batch that is new, and of a call that joins or leaves
+pub ruleset new_decides = (formed_opens, new_alone, new_taken, new_free, fault_refuses)
+
+pub ruleset add_decides = (add_list, add_full, add_new, well_sorted, fault_refuses)
+
+pub ruleset withdraw_decides = (withdraw_list, withdraw_gone, withdraw_held, fault_refuses)

@@ -10,21 +10,20 @@ use Rattle.week.specs.Numbers.{without}
 use Rattle.week.proofs.First.{Proper, first_of_proper}
 use Rattle.week.proofs.Answering.{Answers, answers_name, unless_passed, unless_refused_lem}
 use Rattle.book.specs.declared.book.Book.{Book}
-use Rattle.book.specs.declared.book.Answered.{Answered}
 use Rattle.book.specs.Fault.{open_fault, add_fault, withdraw_fault}
-use Rattle.book.specs.Answer.{held_in, holding, hands_back, open_answer, add_answer, withdraw_answer}
+use Rattle.book.specs.Answer.{CallAnswer, held_in, holding, hands_back, open_answer, add_answer, withdraw_answer}
 use Rattle.book.proofs.Answering.{open_answers, add_answers, withdraw_answers}
 
-module _ {fault : Refusal} {book next : Book} {answer : Answered}
+module _ {fault : Refusal} {book next : Book} {answer : CallAnswer}
     (h : Answers fault (hands_back book) (hands_back next accepted) answer) where
   names_fault : Proper fault → answer.refusal ≡ fault
-  names_fault = answers_name h (λ (a : Answered). a.refusal) (λ _. refl) (λ r. refl)
+  names_fault = answers_name h (λ (a : CallAnswer). a.refusal) (λ _. refl) (λ r. refl)
 
   hands_book : answer.book ≡ unless_refused fault next book
   hands_book =
       elim (ℕ_discrete fault.number 0) [
-        | yes z ↦ ap (λ (a : Answered). a.book) (h.passed z) ∙ sym (unless_passed fault next book z)
-        | no n ↦ ap (λ (a : Answered). a.book) (h.refused refl n) ∙ sym (unless_refused_lem fault next book n)
+        | yes z ↦ ap (λ (a : CallAnswer). a.book) (h.passed z) ∙ sym (unless_passed fault next book z)
+        | no n ↦ ap (λ (a : CallAnswer). a.book) (h.refused refl n) ∙ sym (unless_refused_lem fault next book n)
       ]
 
 pub open_refusal : (t c : ℕ) → (open_answer t c).refusal ≡ open_fault t c

@@ -29,9 +29,8 @@ use Rattle.judge.proofs.Fit.{fit_perm, fit_more, fit_without}
 use Rattle.judge.proofs.Written.{written_passes}
 use Rattle.planner.specs.Choose.{choose_answer}
 use Rattle.book.specs.declared.book.Book.{Book}
-use Rattle.book.specs.declared.book.Answered.{Answered}
 use Rattle.book.specs.Fault.{open_fault, join_fault, leave_fault, add_fault, withdraw_fault}
-use Rattle.book.specs.Answer.{held_in, holding, open_answer, plan_answer}
+use Rattle.book.specs.Answer.{CallAnswer, held_in, holding, open_answer, plan_answer}
 use Rattle.book.specs.Joins.{Joins}
 use Rattle.book.specs.History.{Call, adds, withdraws, plans, after_call, after_calls, collected_by, collected}
 use Rattle.book.proofs.Faults.{add_join, withdraw_leave}
@@ -139,7 +138,7 @@ module _ {t c : ℕ} where
 
     pub open_book : (open_answer t c).book ≡ book_of t c []
     unfolding ordered among
-    open_book = ap (λ (a : Answered). a.book) ((open_answers t c).passed (number_of_lem opened))
+    open_book = ap (λ (a : CallAnswer). a.book) ((open_answers t c).passed (number_of_lem opened))
 
 -- ---- what is collected
 module _ (c : ℕ) where

@@ -1,6 +1,5 @@
 pub mod Faults
 pub mod Answering
-pub mod Owned
 pub mod HandedBack
 pub mod Joining
 pub mod Named

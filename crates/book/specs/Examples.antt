@@ -19,10 +19,8 @@ use Rattle.judge.specs.BatchFault.{cost_fault, worth_fault}
 use Rattle.planner.specs.Choose.{max_picks, table_fault, choose_fault, refused_plan, plan_of, choose_answer}
 use Rattle.planner.specs.Examples.{recipe, batch, week_w}
 use Rattle.book.specs.declared.book.Book.{Book}
-use Rattle.book.specs.declared.book.Answered.{Answered}
-use Rattle.book.specs.declared.plan.Planned.{Planned}
 use Rattle.book.specs.Fault.{open_fault, join_fault, leave_fault, add_fault, withdraw_fault}
-use Rattle.book.specs.Answer.{held_in, open_answer, add_answer, withdraw_answer, plan_answer}
+use Rattle.book.specs.Answer.{CallAnswer, PlanAnswer, held_in, open_answer, add_answer, withdraw_answer, plan_answer}
 
 -- The answers as numbers.
 abbrev refusal_numbers : Refusal → List ℕ
@@ -37,11 +35,11 @@ abbrev holds : Book → List ℕ
 holds book = book.list.opening ∷ book.list.closing ∷ numbers_of (held_in book)
 
 -- a refusal, and what the book that is handed back holds
-abbrev answers : Answered → List ℕ
+abbrev answers : CallAnswer → List ℕ
 answers a = refusal_numbers a.refusal ++ holds a.book
 
 -- a plan's refusal, total and recipes, and the same of the book
-abbrev plans : Planned → List ℕ
+abbrev plans : PlanAnswer → List ℕ
 plans p =
     refusal_numbers p.plan.refusal ++ (p.plan.total ∷ (take p.book.list.count p.plan.choice ++ holds p.book))
 

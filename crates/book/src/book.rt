@@ -1,14 +1,36 @@
 // The book, and what a call that opens or changes it answers.
-use week::record::Week;
-use week::refusal::Refusal;
+ghost use Rattle.std.specs.Prelude.{◌≡◌};
+ghost use Rattle.book.specs.Answer.{answered, changed};
 
-#[derive(Clone, Copy)]
+use week::record::Week;
+use week::refusal::Fault;
+
+#[derive(Clone, Copy, Debug, PartialEq, Eq)]
 pub struct Book {
     pub list: Week,
 }
 
-#[derive(Clone, Copy)]
+// Document 02: "Each call hands the book back", a refused one too, so that it stands beside the result.
+#[derive(Clone, Copy, Debug, PartialEq, Eq)]
 pub struct Answered {
-    pub refusal: Refusal,
+    pub result: Result<(), Fault>,
     pub book: Book,
+}
+
+impl Book {
+    // A call's answer: "a refused call leaves the book", and an accepted one hands back the list that it makes.
+    pub(crate) fn answer(self, list: Result<Week, Fault>) -> Answered
+        ensures { answered result ≡ changed self list }
+    {
+        match list {
+            Ok(list) => Answered {
+                result: Ok(()),
+                book: Book { list },
+            },
+            Err(fault) => Answered {
+                result: Err(fault),
+                book: self,
+            },
+        }
+    }
 }

@@ -4,7 +4,6 @@
 
 pub mod add;
 pub mod book;
-mod held;
 pub mod open;
 pub mod plan;
 pub mod withdraw;

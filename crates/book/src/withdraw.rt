@@ -1,45 +1,35 @@
 // One batch less, by its number.
-ghost use Rattle.std.specs.Prelude.{◌≡◌};
+ghost use Rattle.std.specs.Prelude.{◌≡◌, IfOk};
+ghost use Rattle.week.specs.Fault.{refusal_of};
+ghost use Rattle.week.specs.Numbers.{without};
+ghost use Rattle.week.specs.Written.{batches_of, written};
 ghost use Rattle.book.specs.Fault.{withdraw_fault};
-ghost use Rattle.book.specs.Answer.{withdraw_answer};
+ghost use Rattle.book.specs.Answer.{answered, withdraw_answer};
 
 use crate::book::{Answered, Book};
-use crate::held::is_held;
-use judge::fault::list_fault;
+use judge::fault::accept_list;
+use week::number::is_held;
 use week::record::Week;
-use week::refusal::Refusal;
+use week::refusal::{Fault, Reason};
 use week::written::leave_out;
 
-// The held list's own refusal, then 21.
-fn withdraw_fault(list: Week, number: u16) -> Refusal
-    ensures { result ≡ withdraw_fault list number }
+// The list without the batches of a number: the held list's own refusal, then 21.
+#[tactic(auto, using(crate::proofs::Faults::withdraw_decides))]
+fn withdrawn(list: Week, number: u16) -> Result<Week, Fault>
+    ensures refusal { refusal_of result ≡ withdraw_fault list number }
+    ensures list { IfOk result (λ after. after ≡ written list.opening list.closing (without number (batches_of list))) }
 {
-    let held = list_fault(list);
-    if held.number != 0 {
-        return held;
+    accept_list(list)?;
+    if !is_held(list.listed(), number) {
+        return Err(Fault::of(Reason::NumberNotHeld));
     }
-    if !is_held(list, number) {
-        return Refusal::at(21, 0, 0);
-    }
-    Refusal::none()
+    Ok(leave_out(list, number))
 }
 
 // The answer on every book and every number.
+#[tactic(auto, using(crate::proofs::Answering::withdraw_changes))]
 pub fn withdraw(book: Book, number: u16) -> Answered
-    ensures { result ≡ withdraw_answer book number }
+    ensures { answered result ≡ withdraw_answer book number }
 {
-    let list = book.list;
-    let fault = withdraw_fault(list, number);
-    if fault.number != 0 {
-        return Answered {
-            refusal: fault,
-            book,
-        };
-    }
-    Answered {
-        refusal: Refusal::none(),
-        book: Book {
-            list: leave_out(list, number),
-        },
-    }
+    book.answer(withdrawn(book.list, number))
 }

@@ -9,18 +9,18 @@ use Rattle.command.specs.Numbered.{value_at, max_byte, lends_up_to}
 
 module _ (most : ℕ) (numbers : Numbers) where
   -- where there are one or two, the size decides, and then the value
-  module _ (valid : numbers.valid ≡ true) (some : leb 1 numbers.count ≡ true) (few : leb numbers.count 2 ≡ true) where
+  module _ (some : leb 1 numbers.count ≡ true) (few : leb numbers.count 2 ≡ true) where
     pub lends_small : value_at numbers.values 0 ≤ most → lends_up_to most numbers ≡ leb (value_at numbers.values 1) max_byte
     unfolding lends_up_to
-    lends_small size = simp (valid, some, few, le-leb _ _ size)
+    lends_small size = simp (some, few, le-leb _ _ size)
 
     pub lends_large : most < value_at numbers.values 0 → lends_up_to most numbers ≡ false
     unfolding lends_up_to
-    lends_large size = simp (valid, some, few, lt-leb _ _ size)
+    lends_large size = simp (some, few, lt-leb _ _ size)
 
   -- the value is a byte
   pub byte_lent : lends_up_to most numbers ≡ true → value_at numbers.values 1 ≤ max_byte
   unfolding lends_up_to
   byte_lent lends =
-      let before = numbers.valid && leb 1 numbers.count && leb numbers.count 2 && leb (value_at numbers.values 0) most in
+      let before = leb 1 numbers.count && leb numbers.count 2 && leb (value_at numbers.values 0) most in
       leb-true _ _ ((and-eq-true_iff before _).0 lends).1

@@ -1,73 +1,82 @@
 -- Lines of commands, lines that are passed over and lines that are no command, computed from the definitions: one table, one claim.
-use Rattle.std.specs.Prelude.{ℕ, ◌≡◌, refl, true, length, replicate}
+use Rattle.std.specs.Prelude.{ℕ, ◌≡◌, refl, true, Option, None, Some, replicate}
 use Prim.Native.String.{String}
 use mathlib.Core.List.{List, [], ◌∷◌, ◌++◌, map, flatten}
 use Rattle.arrays.specs.Example.{Example, ◌is◌, same, agree}
 use Rattle.arrays.specs.Made.{padded}
 use Rattle.arrays.specs.Text.{bytes, space}
 use Rattle.week.specs.declared.record.Recipe.{Recipe}
+use Rattle.week.specs.declared.record.Batch.{Batch}
 use Rattle.week.specs.Record.{max_recipes, no_recipe}
-use Rattle.words.specs.Line.{no_line, with_byte, with_bytes}
+use Rattle.words.specs.Line.{no_line, with_bytes}
 use Rattle.words.specs.Word.{joined, parts_of, some_bytes, words_of}
-use Rattle.words.specs.Number.{are_digits, is_number}
-use Rattle.words.specs.Numbers.{max_kept, are_numbers, numbers_of}
-use Rattle.command.specs.declared.command.Kind.{Kind}
-use Rattle.command.specs.declared.command.Kind.TheVariants.{Nothing, Unknown, Week, Batch as OneBatch, Table, Log, Choose, Check}
-use Rattle.command.specs.declared.command.Kind.TheVariants.{Run, ShowTable, ShowLog, List as TheList, Sheet, Open, Add, Withdraw}
-use Rattle.command.specs.declared.command.Kind.TheVariants.{Plan, Book, Hold, Help}
+use Rattle.words.specs.Number.{are_digits, is_number, number_of}
+use Rattle.words.specs.Numbers.{are_numbers, numbers_of}
+use Rattle.command.specs.declared.command.Choice.{Choice}
 use Rattle.command.specs.declared.command.Command.{Command}
-use Rattle.command.specs.Record.{no_choice, of_kind, of_batch, of_choice}
+use Rattle.command.specs.declared.command.Command.TheVariants.{Nothing, Week, Batch as OneBatch, Table, Log, Choose, Check}
+use Rattle.command.specs.declared.command.Command.TheVariants.{Run, ShowTable, ShowLog, List as TheList, Sheet, Open, Add}
+use Rattle.command.specs.declared.command.Command.TheVariants.{Withdraw, Plan, Book, Hold, Help}
+use Rattle.command.specs.Record.{choice_of}
 use Rattle.command.specs.Name.{name_among, name_of}
-use Rattle.command.specs.Show.{shown_kind, show_command}
-use Rattle.command.specs.Numbered.{exactly_command, batch_from, batch_command, lends_up_to, table_command, log_command}
-use Rattle.command.specs.Numbered.{are_bytes, is_choice, choice_from, choice_command}
+use Rattle.command.specs.Show.{shown, show_command}
+use Rattle.command.specs.Numbered.{batch_from, given_batch, lends_up_to, given_memory, are_bytes, is_choice, given_choice}
 use Rattle.command.specs.Command.{named, by_words, is_comment, command_in, command_of}
 
--- a command in numbers: those of its kind, a number for each; and all that its batch and its choice hold
-abbrev kind_numbers : Kind → List ℕ
-kind_numbers Nothing = 0 ∷ []
-kind_numbers Unknown = 1 ∷ []
-kind_numbers (Week opening closing) = 2 ∷ opening ∷ closing ∷ []
-kind_numbers OneBatch = 3 ∷ []
-kind_numbers (Table size value) = 4 ∷ size ∷ value ∷ []
-kind_numbers (Log size value) = 5 ∷ size ∷ value ∷ []
-kind_numbers Choose = 6 ∷ []
-kind_numbers Check = 7 ∷ []
-kind_numbers Run = 8 ∷ []
-kind_numbers ShowTable = 9 ∷ []
-kind_numbers ShowLog = 10 ∷ []
-kind_numbers TheList = 11 ∷ []
-kind_numbers Sheet = 12 ∷ []
-kind_numbers (Open opening closing) = 13 ∷ opening ∷ closing ∷ []
-kind_numbers Add = 14 ∷ []
-kind_numbers (Withdraw number) = 15 ∷ number ∷ []
-kind_numbers Plan = 16 ∷ []
-kind_numbers Book = 17 ∷ []
-kind_numbers Hold = 18 ∷ []
-kind_numbers Help = 19 ∷ []
-
+-- a command in numbers: those of its variant, a number for each, and all that it holds; and 1 where there is none
 abbrev recipe_numbers : Recipe → List ℕ
 recipe_numbers r = r.cost ∷ r.worth ∷ []
 
-abbrev numbers : Command → List ℕ
-numbers c =
-    let b = c.batch in
-    kind_numbers c.kind ++ (b.number ∷ b.arrival ∷ b.due ∷ b.count ∷ flatten (map recipe_numbers b.recipes))
-    ++ (c.choice.count ∷ c.choice.recipes)
+abbrev batch_numbers : Batch → List ℕ
+batch_numbers b = b.number ∷ b.arrival ∷ b.due ∷ b.count ∷ flatten (map recipe_numbers b.recipes)
+
+abbrev choice_numbers : Choice → List ℕ
+choice_numbers choice = choice.recipes.items
+
+abbrev command_numbers : Command → List ℕ
+command_numbers Nothing = 0 ∷ []
+command_numbers (Week opening closing) = 2 ∷ opening ∷ closing ∷ []
+command_numbers (OneBatch batch) = 3 ∷ batch_numbers batch
+command_numbers (Table size value) = 4 ∷ size ∷ value ∷ []
+command_numbers (Log size value) = 5 ∷ size ∷ value ∷ []
+command_numbers Choose = 6 ∷ []
+command_numbers (Check choice) = 7 ∷ choice_numbers choice
+command_numbers (Run choice) = 8 ∷ choice_numbers choice
+command_numbers ShowTable = 9 ∷ []
+command_numbers ShowLog = 10 ∷ []
+command_numbers TheList = 11 ∷ []
+command_numbers Sheet = 12 ∷ []
+command_numbers (Open opening closing) = 13 ∷ opening ∷ closing ∷ []
+command_numbers (Add batch) = 14 ∷ batch_numbers batch
+command_numbers (Withdraw number) = 15 ∷ number ∷ []
+command_numbers Plan = 16 ∷ []
+command_numbers Book = 17 ∷ []
+command_numbers Hold = 18 ∷ []
+command_numbers Help = 19 ∷ []
+
+abbrev numbers : Option Command → List ℕ
+numbers (Some command) = command_numbers command
+numbers None = 1 ∷ []
 
 infixl 20 ◌means◌
 abbrev ◌means◌ : List ℕ → Command → Example
-line means command = numbers (command_in line) is numbers command
+line means command = numbers (command_in line) is numbers (Some command)
 
--- a command that is its kind alone
 infixl 20 ◌asks◌
-abbrev ◌asks◌ : String → Kind → Example
-line asks kind = bytes line means of_kind kind
+abbrev ◌asks◌ : String → Command → Example
+line asks command = bytes line means command
 
--- the commands of a batch, of which recipes after the tenth are counted and not kept, and of a choice
-abbrev a_batch : Kind → (number arrival due count : ℕ) → List Recipe → Command
-a_batch kind number arrival due count recipes =
-    of_batch kind record {
+-- a line that is no command
+abbrev no_command : List ℕ → Example
+no_command line = numbers (command_in line) is numbers None
+
+abbrev not_one : String → Example
+not_one line = no_command (bytes line)
+
+-- a batch, of which recipes after the tenth are counted and not kept
+abbrev a_batch : (number arrival due count : ℕ) → List Recipe → Batch
+a_batch number arrival due count recipes =
+    record {
       number = number;
       arrival = arrival;
       due = due;
@@ -78,9 +87,6 @@ a_batch kind number arrival due count recipes =
 infixl 30 ◌for◌
 abbrev ◌for◌ : ℕ → ℕ → Recipe
 cost for worth = record { cost = cost; worth = worth }
-
-abbrev a_choice : Kind → List ℕ → Command
-a_choice kind recipes = of_choice kind (record { count = length recipes; recipes = padded max_kept 0 recipes })
 
 -- a word, and n times the number 1 after it; a word, and n spaces after it
 abbrev ones : String → ℕ → List ℕ
@@ -93,26 +99,26 @@ table : List Example
 table =
     -- a week, and batches: with recipes, without one, and with eleven of them
     ("week 0 100" asks Week 0 100)
-    ∷ (bytes "batch 7 0 40 30 9 10 4" means a_batch OneBatch 7 0 40 2 ((30 for 9) ∷ (10 for 4) ∷ []))
-    ∷ (bytes "batch 8 20 60" means a_batch OneBatch 8 20 60 0 [])
-    ∷ (ones "batch" 25 means a_batch OneBatch 1 1 1 11 (replicate 10 (1 for 1)))
+    ∷ ("batch 7 0 40 30 9 10 4" asks OneBatch (a_batch 7 0 40 2 ((30 for 9) ∷ (10 for 4) ∷ [])))
+    ∷ ("batch 8 20 60" asks OneBatch (a_batch 8 20 60 0 []))
+    ∷ (ones "batch" 25 means OneBatch (a_batch 1 1 1 11 (replicate 10 (1 for 1))))
     -- what is lent: ‘V may be left out and is 0 then’; ‘At most 40,000 and 4,000 bytes’
     ∷ ("table 303 9" asks Table 303 9)
     ∷ ("table 40000 255" asks Table 40000 255)
     ∷ ("log 4000" asks Log 4000 0)
-    ∷ ("table 40001" asks Unknown)
-    ∷ ("log 4001" asks Unknown)
-    ∷ ("log 100 256" asks Unknown)
-    ∷ ("table" asks Unknown)
-    ∷ ("table 1 2 3" asks Unknown)
+    ∷ (not_one "table 40001")
+    ∷ (not_one "log 4001")
+    ∷ (not_one "log 100 256")
+    ∷ (not_one "table")
+    ∷ (not_one "table 1 2 3")
     -- the operations
     ∷ ("choose" asks Choose)
-    ∷ (bytes "check 1 1 1" means a_choice Check (1 ∷ 1 ∷ 1 ∷ []))
-    ∷ (bytes "check" means a_choice Check [])
-    ∷ (bytes "run 2 1 255" means a_choice Run (2 ∷ 1 ∷ 255 ∷ []))
-    ∷ (ones "run" 255 means a_choice Run (replicate 255 1))
-    ∷ (ones "run" 256 means of_kind Unknown)
-    ∷ ("run 2 1 256" asks Unknown)
+    ∷ ("check 1 1 1" asks Check (choice_of (1 ∷ 1 ∷ 1 ∷ [])))
+    ∷ ("check" asks Check (choice_of []))
+    ∷ ("run 2 1 255" asks Run (choice_of (2 ∷ 1 ∷ 255 ∷ [])))
+    ∷ (ones "run" 255 means Run (choice_of (replicate 255 1)))
+    ∷ (no_command (ones "run" 256))
+    ∷ (not_one "run 2 1 256")
     ∷ ("show table" asks ShowTable)
     ∷ ("show log" asks ShowLog)
     ∷ ("list" asks TheList)
@@ -120,9 +126,9 @@ table =
     ∷ ("help" asks Help)
     -- of the book
     ∷ ("open 0 100" asks Open 0 100)
-    ∷ (bytes "add 7 0 40 30 9 10 4" means a_batch Add 7 0 40 2 ((30 for 9) ∷ (10 for 4) ∷ []))
-    ∷ (bytes "add 8 20 60" means a_batch Add 8 20 60 0 [])
-    ∷ (ones "add" 25 means a_batch Add 1 1 1 11 (replicate 10 (1 for 1)))
+    ∷ ("add 7 0 40 30 9 10 4" asks Add (a_batch 7 0 40 2 ((30 for 9) ∷ (10 for 4) ∷ [])))
+    ∷ ("add 8 20 60" asks Add (a_batch 8 20 60 0 []))
+    ∷ (ones "add" 25 means Add (a_batch 1 1 1 11 (replicate 10 (1 for 1))))
     ∷ ("withdraw 65535" asks Withdraw 65535)
     ∷ ("plan" asks Plan)
     ∷ ("book" asks Book)
@@ -134,44 +140,44 @@ table =
     ∷ ("   " asks Nothing)
     ∷ ("# week 0 100" asks Nothing)
     -- no command: another word, a word or a number too many or too few, what is no number
-    ∷ (" # week 0 100" asks Unknown)
-    ∷ ("Week 0 100" asks Unknown)
-    ∷ ("weeks 0 100" asks Unknown)
-    ∷ ("wee 0 100" asks Unknown)
-    ∷ ("week 0" asks Unknown)
-    ∷ ("week 0 100 1" asks Unknown)
-    ∷ ("week 0 -1" asks Unknown)
-    ∷ ("week 0 65536" asks Unknown)
-    ∷ ("batch 7 0" asks Unknown)
-    ∷ ("batch 7 0 40 30" asks Unknown)
-    ∷ ("choose 1" asks Unknown)
-    ∷ ("choose now" asks Unknown)
-    ∷ ("show" asks Unknown)
-    ∷ ("show week" asks Unknown)
-    ∷ ("show table log" asks Unknown)
-    ∷ ("help\t" asks Unknown)
-    ∷ ("open 0" asks Unknown)
-    ∷ ("open 0 100 1" asks Unknown)
-    ∷ ("add 7 0" asks Unknown)
-    ∷ ("add 7 0 40 30" asks Unknown)
-    ∷ ("withdraw" asks Unknown)
-    ∷ ("withdraw 7 8" asks Unknown)
-    ∷ ("withdraw 65536" asks Unknown)
-    ∷ ("plan 1" asks Unknown)
-    ∷ ("book 1" asks Unknown)
-    ∷ ("hold 1" asks Unknown)
+    ∷ (not_one " # week 0 100")
+    ∷ (not_one "Week 0 100")
+    ∷ (not_one "weeks 0 100")
+    ∷ (not_one "wee 0 100")
+    ∷ (not_one "week 0")
+    ∷ (not_one "week 0 100 1")
+    ∷ (not_one "week 0 -1")
+    ∷ (not_one "week 0 65536")
+    ∷ (not_one "batch 7 0")
+    ∷ (not_one "batch 7 0 40 30")
+    ∷ (not_one "choose 1")
+    ∷ (not_one "choose now")
+    ∷ (not_one "show")
+    ∷ (not_one "show week")
+    ∷ (not_one "show table log")
+    ∷ (not_one "help\t")
+    ∷ (not_one "open 0")
+    ∷ (not_one "open 0 100 1")
+    ∷ (not_one "add 7 0")
+    ∷ (not_one "add 7 0 40 30")
+    ∷ (not_one "withdraw")
+    ∷ (not_one "withdraw 7 8")
+    ∷ (not_one "withdraw 65536")
+    ∷ (not_one "plan 1")
+    ∷ (not_one "book 1")
+    ∷ (not_one "hold 1")
     -- ‘longer than 4,096 bytes’: spaces count; but a comment of any length is passed over
-    ∷ (spaces "help" 4092 means of_kind Help)
-    ∷ (spaces "help" 4093 means of_kind Unknown)
-    ∷ (spaces "" 4097 means of_kind Unknown)
-    ∷ (spaces "#" 4096 means of_kind Nothing)
+    ∷ (spaces "help" 4092 means Help)
+    ∷ (no_command (spaces "help" 4093))
+    ∷ (no_command (spaces "" 4097))
+    ∷ (spaces "#" 4096 means Nothing)
     -- of a line as it is held
-    ∷ (numbers (command_of (with_bytes no_line (bytes "week 0 100"))) is numbers (of_kind (Week 0 100)))
+    ∷ (numbers (command_of (with_bytes no_line (bytes "week 0 100"))) is numbers (Some (Week 0 100)))
     ∷ []
 
 examples : agree table ≡ true
 unfolding
-    table same agree flatten with_byte with_bytes joined parts_of some_bytes words_of are_digits is_number are_numbers numbers_of
-    no_choice name_among name_of shown_kind show_command exactly_command batch_from batch_command lends_up_to table_command log_command
-    are_bytes is_choice choice_from choice_command named by_words is_comment command_in command_of
+    table same agree flatten with_bytes joined parts_of some_bytes words_of are_digits is_number number_of are_numbers numbers_of
+    name_among name_of shown show_command batch_from given_batch lends_up_to given_memory are_bytes is_choice given_choice
+    named by_words is_comment command_in command_of
 examples = refl

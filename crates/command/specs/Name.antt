@@ -1,7 +1,7 @@
 -- The words that commands begin with: docs/WEEKDESK.md.
-use Rattle.std.specs.Prelude.{ℕ, cond, List, [], ◌∷◌}
+use Rattle.std.specs.Prelude.{ℕ, cond, Option, None, Some, List, [], ◌∷◌}
+use Rattle.std.specs.Str.{bytes_eq}
 use Rattle.arrays.specs.Text.{bytes}
-use Rattle.arrays.specs.Example.{same}
 use Rattle.command.specs.declared.name.Name.{Name}
 use Rattle.command.specs.declared.name.Name.TheVariants as name
 
@@ -28,9 +28,9 @@ names =
     ∷ []
 
 -- the name that a word is among these
-unfoldable pub name_among : List (List ℕ × Name) → List ℕ → Name
-name_among [] word = name.Unknown
-name_among (entry ∷ entries) word = cond (same word entry.0) entry.1 (name_among entries word)
+unfoldable pub name_among : List (List ℕ × Name) → List ℕ → Option Name
+name_among [] word = None
+name_among (entry ∷ entries) word = cond (bytes_eq word entry.0) (Some entry.1) (name_among entries word)
 
-unfoldable pub name_of : List ℕ → Name
+unfoldable pub name_of : List ℕ → Option Name
 name_of word = name_among names word

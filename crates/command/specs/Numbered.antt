@@ -1,26 +1,22 @@
--- Commands by the numbers that stand after their names: docs/WEEKDESK.md, which each quotes.
-use Rattle.std.specs.Prelude.{ℕ, ◌+◌, ◌-◌, ◌*◌, ◌/◌, ◌%◌, min, Bool, true, ◌&&◌, List, [], ◌∷◌, get_or, take, eqb, leb}
+-- What a command is asked with, by the numbers that stand after its name: docs/WEEKDESK.md, which each quotes.
+use Rattle.std.specs.Prelude.{ℕ, ◌+◌, ◌-◌, ◌*◌, ◌/◌, ◌%◌, min, Bool, true, ◌&&◌, Option, List, [], ◌∷◌, get_or, take, eqb, leb}
 use Rattle.arrays.specs.Made.{tabulate, padded}
 use Rattle.week.specs.declared.record.Recipe.{Recipe}
 use Rattle.week.specs.declared.record.Batch.{Batch}
 use Rattle.week.specs.Record.{max_recipes, no_recipe}
-use Rattle.lent.specs.Size.{max_table, max_log}
 use Rattle.words.specs.declared.numbers.Numbers.{Numbers}
 use Rattle.words.specs.Numbers.{max_kept}
 use Rattle.command.specs.declared.command.Choice.{Choice}
-use Rattle.command.specs.declared.command.Kind.{Kind}
-use Rattle.command.specs.declared.command.Kind.TheVariants as kind
-use Rattle.command.specs.declared.command.Command.{Command}
-use Rattle.command.specs.Record.{of_kind, of_batch, of_choice, known_if}
+use Rattle.command.specs.Record.{choice_of, some_if}
 
 -- the number of an index, from 0; 0 where there is none
 abbrev pub value_at : List ℕ → ℕ → ℕ
 value_at values i = get_or values i 0
 
--- a command with so many numbers after its name: none after `choose`, `list`, `sheet`, `plan`, `book`, `hold` and `help`; one after
+-- so many numbers after a name, and nothing else: none after `choose`, `list`, `sheet`, `plan`, `book`, `hold` and `help`; one after
 -- `withdraw`; two after `week` and `open`
-unfoldable pub exactly_command : ℕ → Kind → Numbers → Command
-exactly_command n k numbers = known_if (numbers.valid && eqb numbers.count n) (of_kind k)
+abbrev pub exactly : ℕ → Numbers → Option (List ℕ)
+exactly n numbers = some_if (eqb numbers.count n) (take n numbers.values)
 
 -- ‘batch NUMBER R D COST WORTH COST WORTH ..’, ‘add NUMBER R D COST WORTH ..’: ‘any number of recipes (the count as written, the first
 -- ten kept ..)’
@@ -39,9 +35,8 @@ batch_from numbers =
       recipes = padded max_recipes no_recipe (tabulate (recipe_from values) 0 (min count max_recipes));
     }
 
-unfoldable pub batch_command : Kind → Numbers → Command
-batch_command k numbers =
-    known_if (numbers.valid && leb 3 numbers.count && eqb (numbers.count % 2) 1) (of_batch k (batch_from numbers))
+unfoldable pub given_batch : Numbers → Option Batch
+given_batch numbers = some_if (leb 3 numbers.count && eqb (numbers.count % 2) 1) (batch_from numbers)
 
 -- ‘table SIZE V’, ‘log SIZE V’: ‘V may be left out and is 0 then’; ‘At most 40,000 and 4,000 bytes; above that, no command.’; ‘the
 -- byte V, is at most 255’
@@ -50,16 +45,11 @@ max_byte = 255
 
 unfoldable pub lends_up_to : ℕ → Numbers → Bool
 lends_up_to most numbers =
-    numbers.valid && leb 1 numbers.count && leb numbers.count 2
+    leb 1 numbers.count && leb numbers.count 2
     && leb (value_at numbers.values 0) most && leb (value_at numbers.values 1) max_byte
 
-unfoldable pub table_command : Numbers → Command
-table_command numbers =
-    known_if (lends_up_to max_table numbers) (of_kind (kind.Table (value_at numbers.values 0) (value_at numbers.values 1)))
-
-unfoldable pub log_command : Numbers → Command
-log_command numbers =
-    known_if (lends_up_to max_log numbers) (of_kind (kind.Log (value_at numbers.values 0) (value_at numbers.values 1)))
+unfoldable pub given_memory : ℕ → Numbers → Option (ℕ × ℕ)
+given_memory most numbers = some_if (lends_up_to most numbers) (value_at numbers.values 0, value_at numbers.values 1)
 
 -- ‘check K K ..’, ‘run K K ..’: ‘A recipe number in a choice .. is at most 255; a choice has at most 255 of them, and may have none’
 unfoldable pub are_bytes : List ℕ → Bool
@@ -67,11 +57,7 @@ are_bytes [] = true
 are_bytes (v ∷ vs) = leb v max_byte && are_bytes vs
 
 unfoldable pub is_choice : Numbers → Bool
-is_choice numbers = numbers.valid && leb numbers.count max_kept && are_bytes (take numbers.count numbers.values)
+is_choice numbers = leb numbers.count max_kept && are_bytes (take numbers.count numbers.values)
 
-unfoldable pub choice_from : Numbers → Choice
-choice_from numbers =
-    record { count = numbers.count; recipes = padded max_kept 0 (take numbers.count numbers.values) }
-
-unfoldable pub choice_command : Kind → Numbers → Command
-choice_command k numbers = known_if (is_choice numbers) (of_choice k (choice_from numbers))
+unfoldable pub given_choice : Numbers → Option Choice
+given_choice numbers = some_if (is_choice numbers) (choice_of (take numbers.count numbers.values))

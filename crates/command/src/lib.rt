@@ -10,10 +10,11 @@ ghost use Rattle.std.specs.Prelude.{◌≡◌, drop};
 ghost use Rattle.words.specs.Word.{words_of};
 ghost use Rattle.command.specs.Command.{named, is_comment, command_in, command_of};
 
-use crate::command::{Command, Kind};
+use crate::command::Command;
 use crate::name::{Name, name_of};
-use crate::numbered::{batch_command, choice_command, exactly, log_command, table_command};
+use crate::numbered::{alone, exactly, given_batch, given_choice, given_memory};
 use crate::show::show_command;
+use lent::{MAX_LOG, MAX_TABLE};
 use words::line::{Line, MAX_LINE};
 use words::numbers::numbers_from;
 use words::word::next_word;
@@ -22,46 +23,43 @@ const COMMENT: u8 = b'#';
 
 // The command of a name, with what stands after it on the line.
 #[tactic(auto, unfolding(crate::specs::Command::named))]
-fn command_named(name: Name, line: &[u8], at: usize) -> Command
+fn command_named(name: Name, line: &[u8], at: usize) -> Option<Command>
     ensures { result ≡ named name (words_of (drop at line.now)) }
 {
     let numbers = numbers_from(line, at);
-    let values = numbers.values;
-    let first = values[0];
-    let second = values[1];
     match name {
-        Name::Week => exactly(
-            2,
-            Kind::Week {
-                opening: first,
-                closing: second,
-            },
-            numbers,
-        ),
-        Name::Batch => batch_command(Kind::Batch, numbers),
-        Name::Table => table_command(numbers),
-        Name::Log => log_command(numbers),
-        Name::Choose => exactly(0, Kind::Choose, numbers),
-        Name::Check => choice_command(Kind::Check, numbers),
-        Name::Run => choice_command(Kind::Run, numbers),
+        Name::Week => {
+            let [opening, closing] = exactly::<2>(numbers?)?;
+            Some(Command::Week { opening, closing })
+        }
+        Name::Batch => given_batch(numbers?).map(Command::Batch),
+        Name::Table => {
+            let (size, value) = given_memory(MAX_TABLE, numbers?)?;
+            Some(Command::Table { size, value })
+        }
+        Name::Log => {
+            let (size, value) = given_memory(MAX_LOG, numbers?)?;
+            Some(Command::Log { size, value })
+        }
+        Name::Choose => alone(Command::Choose, numbers?),
+        Name::Check => given_choice(numbers?).map(Command::Check),
+        Name::Run => given_choice(numbers?).map(Command::Run),
         Name::Show => show_command(line, at),
-        Name::List => exactly(0, Kind::List, numbers),
-        Name::Sheet => exactly(0, Kind::Sheet, numbers),
-        Name::Open => exactly(
-            2,
-            Kind::Open {
-                opening: first,
-                closing: second,
-            },
-            numbers,
-        ),
-        Name::Add => batch_command(Kind::Add, numbers),
-        Name::Withdraw => exactly(1, Kind::Withdraw { number: first }, numbers),
-        Name::Plan => exactly(0, Kind::Plan, numbers),
-        Name::Book => exactly(0, Kind::Book, numbers),
-        Name::Hold => exactly(0, Kind::Hold, numbers),
-        Name::Help => exactly(0, Kind::Help, numbers),
-        Name::Unknown => Command::of_kind(Kind::Unknown),
+        Name::List => alone(Command::List, numbers?),
+        Name::Sheet => alone(Command::Sheet, numbers?),
+        Name::Open => {
+            let [opening, closing] = exactly::<2>(numbers?)?;
+            Some(Command::Open { opening, closing })
+        }
+        Name::Add => given_batch(numbers?).map(Command::Add),
+        Name::Withdraw => {
+            let [number] = exactly::<1>(numbers?)?;
+            Some(Command::Withdraw { number })
+        }
+        Name::Plan => alone(Command::Plan, numbers?),
+        Name::Book => alone(Command::Book, numbers?),
+        Name::Hold => alone(Command::Hold, numbers?),
+        Name::Help => alone(Command::Help, numbers?),
     }
 }
 
@@ -69,40 +67,30 @@ fn command_named(name: Name, line: &[u8], at: usize) -> Command
 fn is_comment(line: &[u8]) -> bool
     ensures { result ≡ is_comment line.now }
 {
-    if line.len() == 0 {
-        return false;
-    }
-    line[0] == COMMENT
+    matches!(line, [COMMENT, ..])
 }
 
 // The command that the bytes of a line are.
-fn command_in(line: &[u8]) -> Command
+#[tactic(auto, unfolding(crate::specs::Command::command_in, crate::specs::Command::by_words))]
+fn command_in(line: &[u8]) -> Option<Command>
     ensures { result ≡ command_in line.now }
 {
     if is_comment(line) {
-        return Command::of_kind(Kind::Nothing);
+        return Some(Command::Nothing);
     }
     if MAX_LINE < line.len() {
-        return Command::of_kind(Kind::Unknown);
+        return None;
     }
-    let word = next_word(line, 0);
-    let start = word.start;
-    let end = word.end;
-    if start == end {
-        return Command::of_kind(Kind::Nothing);
-    }
-    let name = name_of(&line[start..end]);
-    command_named(name, line, end)
+    let Some(word) = next_word(line, 0) else {
+        return Some(Command::Nothing);
+    };
+    command_named(name_of(word.bytes)?, line, word.end)
 }
 
-// The command that a line is. The answer on every line.
-pub fn command_of(line: Line) -> Command
-    ensures { result ≡ command_of line }
+// The command that a line is, or none. The answer on every line.
+#[tactic(auto, unfolding(crate::specs::Command::command_of))]
+pub fn command_of(line: &Line) -> Option<Command>
+    ensures { result ≡ command_of line.now }
 {
-    let bytes = line.bytes;
-    let len = line.len;
-    if len < bytes.len() {
-        return command_in(&bytes[0..len]);
-    }
-    command_in(&bytes)
+    command_in(&line.bytes)
 }

@@ -1,14 +1,13 @@
 -- A list as the commands that write it down: docs/WEEKDESK.md, ‘The operations’.
-use Rattle.std.specs.Prelude.{ℕ, suc, ◌+◌, ◌*◌, min, length, get_or}
+use Rattle.std.specs.Prelude.{ℕ, suc, ◌+◌, ◌*◌, min, get_or}
 use mathlib.Core.List.{List, [], ◌∷◌, map, flatten}
 use Rattle.arrays.specs.Text.{bytes}
-use Rattle.arrays.specs.Made.{tabulate, padded}
+use Rattle.arrays.specs.Made.{tabulate}
 use Rattle.week.specs.declared.record.Batch.{Batch}
 use Rattle.week.specs.Record.{max_recipes, no_batch, recipe_at}
 use Rattle.text.specs.Decimal.{decimal}
 use Rattle.text.specs.Line.{spaced, line_of, week_line, week_width}
 use Rattle.draft.specs.declared.record.Draft.{Draft}
-use Rattle.draft.specs.declared.list.ListText.{ListText}
 use Rattle.draft.specs.Record.{max_kept}
 
 -- one recipe more than are kept is printed, so that a count above the limit stays above it when the line is read again
@@ -55,8 +54,6 @@ batch_lines d n = tabulate (λ i. batch_line (get_or d.batches i no_batch)) 0 n
 unfoldable pub list_lines : Draft → List (List ℕ)
 list_lines d = week_line d.opening d.closing ∷ batch_lines d (min d.count max_kept)
 
--- by value: the text, with 0 beyond it, and its length
-abbrev pub list_answer : Draft → ListText
-list_answer d =
-    let text = flatten (list_lines d) in
-    record { bytes = padded max_list 0 text; len = length text }
+-- the whole of it: the lines, one after the other
+abbrev pub list_answer : Draft → List ℕ
+list_answer d = flatten (list_lines d)

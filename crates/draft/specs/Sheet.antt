@@ -1,15 +1,14 @@
 -- A list as the publisher's sheet: docs/WEEKDESK.md, ‘The operations’, and document 01, "The sheet".
-use Rattle.std.specs.Prelude.{ℕ, suc, ◌+◌, ◌-◌, ◌*◌, ◌/◌, ◌%◌, ◌≤◌, ◌<◌, cond, length, get_or, ltb}
+use Rattle.std.specs.Prelude.{ℕ, suc, ◌+◌, ◌-◌, ◌*◌, ◌/◌, ◌%◌, ◌≤◌, ◌<◌, cond, get_or, ltb}
 use mathlib.Core.List.{List, [], ◌∷◌, ◌++◌, flatten}
 use Rattle.arrays.specs.Text.{line_feed}
-use Rattle.arrays.specs.Made.{tabulate, padded}
+use Rattle.arrays.specs.Made.{tabulate}
 use Rattle.week.specs.declared.record.Batch.{Batch}
 use Rattle.week.specs.declared.refusal.Refusal.{Refusal}
 use Rattle.week.specs.Record.{max_batches, max_recipes, no_batch, recipe_at}
 use Rattle.week.specs.Refusal.{refused_if, first_of, first, answer_by}
 use Rattle.text.specs.Line.{refusal_line}
 use Rattle.draft.specs.declared.record.Draft.{Draft}
-use Rattle.draft.specs.declared.sheet.SheetText.{SheetText}
 
 -- "upper-case hexadecimal, two digits a byte": the digit of a number below 16, a byte, and "Values of two bytes stand high byte first."
 unfoldable pub hex_digit : ℕ → ℕ
@@ -77,8 +76,6 @@ sheet_lines d = answer_by (sheet_fault d) (λ r. refusal_line r ∷ []) (sheet_f
 abbrev pub max_sheet : ℕ
 max_sheet = week_length + max_batches * (batch_length + recipe_length * max_recipes)
 
--- by value: the text, with 0 beyond it, and its length
-abbrev pub sheet_answer : Draft → SheetText
-sheet_answer d =
-    let text = flatten (sheet_lines d) in
-    record { bytes = padded max_sheet 0 text; len = length text }
+-- the whole of it: the lines, one after the other
+abbrev pub sheet_answer : Draft → List ℕ
+sheet_answer d = flatten (sheet_lines d)

@@ -1,37 +1,36 @@
 // Upper-case hexadecimal, two digits a byte.
-ghost use Rattle.std.specs.Prelude.{◌≡◌, ◌+◌, ◌≤◌, ◌<◌, length};
-ghost use Rattle.text.specs.Contract.{Puts};
+ghost use Rattle.std.specs.Prelude.{◌≡◌, ◌+◌, ◌≤◌, ◌<◌, ◌++◌, length};
 ghost use Rattle.draft.specs.Sheet.{hex_digit, hex_byte, hex_value};
 
-use text::put::put;
+use text::Text;
 
 // The digit of a number below 16.
+#[tactic(auto, using(crate::proofs::Digits::digit_listed))]
 fn hex_digit(n: u8) -> u8
     requires { n < 16 }
     ensures { result ≡ hex_digit n }
 {
-    if n < 10 {
-        return b'0' + n;
-    }
-    b'A' + (n - 10)
+    b"0123456789ABCDEF"[usize::from(n)]
 }
 
 // A byte.
-pub(crate) fn put_byte(text: &mut [u8], at: usize, b: u8) -> usize
-    requires { at + 2 ≤ length text.old }
-    ensures part { Puts text.old at (hex_byte b) text.new result }
-    ensures width { result ≡ at + 2 }
+#[tactic(auto, unfolding(crate::specs::Sheet::hex_byte))]
+pub(crate) fn put_byte<const N: usize>(text: &mut Text<N>, b: u8)
+    requires { length text.old + 2 ≤ N }
+    ensures part { text.new ≡ text.old ++ hex_byte b }
+    ensures width { length text.new ≡ length text.old + 2 }
 {
-    let digits = [hex_digit(b / 16), hex_digit(b % 16)];
-    put(text, at, &digits)
+    text.put(&[hex_digit(b / 16), hex_digit(b % 16)]);
 }
 
 // Document 01: "Values of two bytes stand high byte first."
-pub(crate) fn put_value(text: &mut [u8], at: usize, v: u16) -> usize
-    requires { at + 4 ≤ length text.old }
-    ensures part { Puts text.old at (hex_value v) text.new result }
-    ensures width { result ≡ at + 4 }
+#[tactic(auto, unfolding(crate::specs::Sheet::hex_value))]
+pub(crate) fn put_value<const N: usize>(text: &mut Text<N>, v: u16)
+    requires { length text.old + 4 ≤ N }
+    ensures part { text.new ≡ text.old ++ hex_value v }
+    ensures width { length text.new ≡ length text.old + 4 }
 {
-    let end = put_byte(&mut *text, at, (v / 256) as u8);
-    put_byte(text, end, (v % 256) as u8)
+    let [high, low] = v.to_be_bytes();
+    put_byte(text, high);
+    put_byte(text, low);
 }

@@ -5,7 +5,7 @@ ghost use Rattle.draft.specs.Record.{empty_draft, with_batch, week_of, of_week};
 use week::record::{Batch, Week};
 
 // The batches are counted up to one more than are kept, so that more is told from it.
-#[derive(Clone, Copy)]
+#[derive(Clone, Copy, Debug, PartialEq, Eq)]
 pub struct Draft {
     pub opening: u16,
     pub closing: u16,
@@ -45,14 +45,13 @@ impl Draft {
     }
 
     // ‘an operation over a list by value is handed the first 16 of them and the count’
+    #[tactic(auto, unfolding(crate::specs::Record::week_of))]
     pub fn week(self) -> Week
         ensures { result ≡ week_of self }
     {
         let mut week = Week::empty(self.opening, self.closing);
-        for i in 0..Week::MAX_BATCHES {
-            let batch = self.batches[i];
-            week.batches[i] = batch;
-        }
+        week.batches
+            .copy_from_slice(&self.batches[..Week::MAX_BATCHES]);
         week.count = self.count;
         week
     }
@@ -61,12 +60,12 @@ impl Draft {
     pub fn of_week(week: Week) -> Draft
         ensures { result ≡ of_week week }
     {
-        let mut draft = Draft::empty(week.opening, week.closing);
-        for i in 0..week.batches.len() {
-            let batch = week.batches[i];
-            draft.batches[i] = batch;
+        let mut batches = [Batch::empty(); Draft::MAX_BATCHES];
+        batches[..Week::MAX_BATCHES].copy_from_slice(&week.batches);
+        Draft {
+            count: week.count,
+            batches,
+            ..Draft::empty(week.opening, week.closing)
         }
-        draft.count = week.count;
-        draft
     }
 }

@@ -1,18 +1,16 @@
 // A list as the publisher's sheet: docs/WEEKDESK.md, ‘The operations’, and document 01, "The sheet".
-ghost use Rattle.std.specs.Prelude.{◌≡◌, ◌+◌, ◌*◌, ◌≤◌, length};
+ghost use Rattle.std.specs.Prelude.{◌≡◌, ◌+◌, ◌*◌, ◌≤◌, ◌++◌, length};
 ghost use mathlib.Core.List.{flatten};
-ghost use Rattle.io.specs.Counts.{IsPrefixLen};
+ghost use Rattle.week.specs.Fault.{refusal_of};
 ghost use Rattle.week.specs.Record.{max_recipes};
-ghost use Rattle.text.specs.Contract.{Puts};
-ghost use Rattle.draft.specs.Sheet.{week_frame, recipes_part, batch_frame, sheet_fault, Writable, sheet_frames, sheet_lines, sheet_answer};
+ghost use Rattle.draft.specs.Sheet.{week_frame, recipes_part, batch_frame, sheet_fault, Writable, sheet_frames, sheet_answer};
 ghost use Rattle.draft.specs.Sheet.{week_length, batch_length, recipe_length, max_sheet};
 
 use crate::hex::{put_byte, put_value};
 use crate::record::Draft;
-use text::line::refusal_line;
-use text::put::put;
+use text::Text;
 use week::record::{Batch, Week};
-use week::refusal::Refusal;
+use week::refusal::{Fault, Reason};
 
 // The bytes that a week's line and a batch's line without recipes have, and those of each recipe, line feeds counted.
 const WEEK_LENGTH: usize = 11;
@@ -21,107 +19,90 @@ const BATCH_LENGTH: usize = 17;
 
 const RECIPE_LENGTH: usize = 8;
 
-const MAX_SHEET: usize = WEEK_LENGTH
+// The longest text.
+pub const MAX_SHEET: usize = WEEK_LENGTH
     + Week::MAX_BATCHES * (BATCH_LENGTH + RECIPE_LENGTH * Batch::MAX_RECIPES);
 
-#[derive(Clone, Copy)]
-pub struct SheetText {
-    pub bytes: [u8; MAX_SHEET],
-    pub len: usize,
-}
-
 // Why a list cannot be written: 3, or 4 where recipes were not kept.
-fn sheet_fault(draft: Draft) -> Refusal
-    ensures { result ≡ sheet_fault draft }
+#[tactic(auto, unfolding(crate::specs::Sheet::sheet_fault, week::specs::Refusal::first_of, week::specs::Refusal::or_else, week::specs::Refusal::refused_if))]
+fn sheet_fault(draft: Draft) -> Result<(), Fault>
+    ensures { refusal_of result ≡ sheet_fault draft }
 {
     if Week::MAX_BATCHES < draft.count {
-        return Refusal::at(3, 0, 0);
+        return Err(Fault::of(Reason::TooManyBatches));
     }
-    let n = draft.count;
-    for i in 0..n {
-        let batch = draft.batches[i];
+    for (i, batch) in draft.batches[..draft.count].iter().enumerate() {
         if Batch::MAX_RECIPES < batch.count {
-            return Refusal::at(4, i + 1, 0);
+            return Err(Fault::of(Reason::RecipeCount).in_place(i + 1));
         }
     }
-    Refusal::none()
+    Ok(())
 }
 
 // "Week: 01, t, c."
-fn week_frame(text: &mut [u8], opening: u16, closing: u16) -> usize
-    requires { week_length ≤ length text.old }
-    ensures frame { Puts text.old 0 (week_frame opening closing) text.new result }
-    ensures width { result ≡ week_length }
+#[tactic(auto, unfolding(crate::specs::Sheet::week_frame))]
+fn week_frame(text: &mut Text<MAX_SHEET>, opening: u16, closing: u16)
+    requires { length text.old + week_length ≤ max_sheet }
+    ensures frame { text.new ≡ text.old ++ week_frame opening closing }
+    ensures width { length text.new ≡ length text.old + week_length }
 {
-    let mut end = put_byte(&mut *text, 0, 1);
-    end = put_value(&mut *text, end, opening);
-    end = put_value(&mut *text, end, closing);
-    put(text, end, b"\n")
+    put_byte(text, 1);
+    put_value(text, opening);
+    put_value(text, closing);
+    text.put(b"\n");
 }
 
 // "cost and worth for each"
-fn recipes_part(text: &mut [u8], at: usize, batch: Batch) -> usize
-    requires { (batch.count ≤ max_recipes) × (at + recipe_length * batch.count ≤ length text.old) }
-    ensures part { Puts text.old at (recipes_part batch batch.count) text.new result }
-    ensures width { result ≡ at + recipe_length * batch.count }
+fn recipes_part(text: &mut Text<MAX_SHEET>, batch: Batch)
+    requires { (batch.count ≤ max_recipes) × (length text.old + recipe_length * batch.count ≤ max_sheet) }
+    ensures part { text.new ≡ text.old ++ recipes_part batch batch.count }
+    ensures width { length text.new ≡ length text.old + recipe_length * batch.count }
 {
-    let n = batch.count;
-    let mut end = at;
-    for k in 0..n {
-        let recipe = batch.recipes[k];
-        end = put_value(&mut *text, end, recipe.cost);
-        end = put_value(&mut *text, end, recipe.worth);
+    for recipe in &batch.recipes[..batch.count] {
+        put_value(text, recipe.cost);
+        put_value(text, recipe.worth);
     }
-    end
 }
 
 // "Batch: 02, number, r, d, one byte with the count of recipes, then cost and worth for each."
-fn batch_frame(text: &mut [u8], at: usize, batch: Batch) -> usize
-    requires { (batch.count ≤ max_recipes) × (at + batch_length + recipe_length * batch.count ≤ length text.old) }
-    ensures frame { Puts text.old at (batch_frame batch) text.new result }
-    ensures width { result ≤ at + batch_length + recipe_length * max_recipes }
+#[tactic(auto, unfolding(crate::specs::Sheet::batch_frame))]
+fn batch_frame(text: &mut Text<MAX_SHEET>, batch: Batch)
+    requires { (batch.count ≤ max_recipes) × (length text.old + batch_length + recipe_length * batch.count ≤ max_sheet) }
+    ensures frame { text.new ≡ text.old ++ batch_frame batch }
+    ensures width { length text.new ≤ length text.old + batch_length + recipe_length * max_recipes }
 {
-    let mut end = put_byte(&mut *text, at, 2);
-    end = put_value(&mut *text, end, batch.number);
-    end = put_value(&mut *text, end, batch.arrival);
-    end = put_value(&mut *text, end, batch.due);
-    end = put_byte(&mut *text, end, batch.count as u8);
-    end = recipes_part(&mut *text, end, batch);
-    put(text, end, b"\n")
+    put_byte(text, 2);
+    put_value(text, batch.number);
+    put_value(text, batch.arrival);
+    put_value(text, batch.due);
+    put_byte(text, batch.count as u8);
+    recipes_part(text, batch);
+    text.put(b"\n");
 }
 
 // Every frame of a list that can be written.
-fn frames(text: &mut [u8], draft: Draft) -> usize
-    requires { Writable draft × (max_sheet ≤ length text.old) }
-    ensures { Puts text.old 0 (flatten (sheet_frames draft)) text.new result }
+fn frames(draft: Draft) -> Text<MAX_SHEET>
+    requires { Writable draft }
+    ensures { result ≡ flatten (sheet_frames draft) }
 {
-    let n = draft.count;
-    let mut end = week_frame(&mut *text, draft.opening, draft.closing);
-    for i in 0..n {
-        let batch = draft.batches[i];
-        end = batch_frame(&mut *text, end, batch);
+    let mut text = Text::new();
+    week_frame(&mut text, draft.opening, draft.closing);
+    for batch in &draft.batches[..draft.count] {
+        batch_frame(&mut text, *batch);
     }
-    end
-}
-
-// All lines: the sheet, or the refusal.
-fn sheet_lines(text: &mut [u8], draft: Draft) -> usize
-    requires { max_sheet ≤ length text.old }
-    ensures { Puts text.old 0 (flatten (sheet_lines draft)) text.new result }
-{
-    let fault = sheet_fault(draft);
-    if fault.number != 0 {
-        return refusal_line(text, 0, fault);
-    }
-    frames(text, draft)
+    text
 }
 
 // ‘the list as a sheet, in frames 02 (the list's own refusal 3 or 4 if it cannot be written)’. The answer on every list.
-pub fn sheet_text(draft: Draft) -> SheetText
-    ensures answer { result ≡ sheet_answer draft }
-    ensures fits { IsPrefixLen result.len result.bytes }
+pub fn sheet_text(draft: Draft) -> Text<MAX_SHEET>
+    ensures { result ≡ sheet_answer draft }
 {
-    let mut bytes = [0; MAX_SHEET];
-    let len = sheet_lines(&mut bytes, draft);
-    SheetText { bytes, len }
+    match sheet_fault(draft) {
+        Ok(()) => frames(draft),
+        Err(fault) => {
+            let mut text = Text::new();
+            text.refusal_line(fault);
+            text
+        }
+    }
 }

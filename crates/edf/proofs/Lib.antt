@@ -1,5 +1,6 @@
 pub mod Pending
 pub mod Logs
+pub mod Tasks
 pub mod RunLoop
 pub mod Counts
 pub mod Changes

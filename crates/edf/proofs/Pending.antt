@@ -9,10 +9,10 @@ use borrow.Author.Tests.{ltb-true, lt-ltb, leb-true, le-leb}
 use Rattle.edf.specs.Run.{first_some, first_pending, Reads}
 
 -- the test of `first_pending`, in numbers
-pending_true : (r l m : ℕ) → (leb r m && ltb 0 l) ≡ true → (r ≤ m) × (1 ≤ l)
+pub pending_true : (r l m : ℕ) → (leb r m && ltb 0 l) ≡ true → (r ≤ m) × (1 ≤ l)
 pending_true r l m h = let both = (and-eq-true_iff (leb r m) (ltb 0 l)).0 h in (leb-true _ _ both.0, ltb-true _ _ both.1)
 
-true_pending : (r l m : ℕ) → r ≤ m → 1 ≤ l → (leb r m && ltb 0 l) ≡ true
+pub true_pending : (r l m : ℕ) → r ≤ m → 1 ≤ l → (leb r m && ltb 0 l) ≡ true
 true_pending r l m ready some = (and-eq-true_iff (leb r m) (ltb 0 l)).1 (le-leb r m ready, lt-ltb 0 l some)
 
 -- `Reads` of 0 says that no job is pending: of no jobs

@@ -1,9 +1,10 @@
 -- What a choice gives the station to read, and its run. The choice is an array in list order; positions count from 1.
-use Rattle.std.specs.Prelude.{ℕ, suc, Bool, false, not, List}
+use Rattle.std.specs.Prelude.{ℕ, suc, Bool, not, cond, ◌&&◌, leb, ltb, List, Option, Some, None, unwrap_or}
 use Rattle.arrays.specs.Position.{at_position}
 use Rattle.arrays.specs.Made.{tabulate, padded}
 use Rattle.jobs.specs.declared.model.JobList.{JobList}
 use Rattle.jobs.specs.Model.{max_jobs, no_job, version_at, minutes_of}
+use Rattle.edf.specs.declared.workload.Task.{Task}
 use Rattle.edf.specs.declared.workload.Workload.{Workload}
 use Rattle.edf.specs.declared.outcome.Outcome.{Outcome}
 use Rattle.edf.specs.Run.{log_of, outcome_of}
@@ -24,20 +25,43 @@ aside_at list choice i = not (version_at list choice i).read
 unfoldable pub choice_log : JobList → List ℕ → (t w : ℕ) → List ℕ
 choice_log list choice t w = log_of list.count (ready_at list) (minutes_at list choice) t w
 
--- the same as arrays, which the station is handed: beyond the list nothing is to be read
+-- the same as one task for each position: the minutes to read, unless it is set aside
+abbrev pub given_at : JobList → List ℕ → ℕ → Option ℕ
+given_at list choice i = cond (aside_at list choice i) None (Some (minutes_at list choice i))
+
+abbrev pub task_at : JobList → List ℕ → ℕ → Task
+task_at list choice i = record { ready = ready_at list i; minutes = given_at list choice i }
+
+-- what stands beyond the list: nothing is to be read
+abbrev pub no_task : Task
+no_task = record { ready = 0; minutes = None }
+
+-- what the station is handed
 unfoldable pub workload_of : JobList → List ℕ → Workload
 workload_of list choice =
     record {
       count = list.count;
-      ready = padded max_jobs 0 (tabulate (λ i. ready_at list (suc i)) 0 list.count);
-      minutes = padded max_jobs 0 (tabulate (λ i. minutes_at list choice (suc i)) 0 list.count);
-      aside = padded max_jobs false (tabulate (λ i. aside_at list choice (suc i)) 0 list.count);
+      tasks = padded max_jobs no_task (tabulate (λ i. task_at list choice (suc i)) 0 list.count);
     }
+
+-- the minutes that the station has to read of a task, and whether it can read it in minute m
+abbrev pub left_of : Task → ℕ
+left_of task = unwrap_or task.minutes 0
+
+abbrev pub is_pending : ℕ → Task → Bool
+is_pending m task = leb task.ready m && ltb 0 (left_of task)
+
+-- the same of the task at position i
+abbrev pub ready_in : List Task → ℕ → ℕ
+ready_in tasks i = (at_position no_task tasks i).ready
+
+abbrev pub left_in : List Task → ℕ → ℕ
+left_in tasks i = left_of (at_position no_task tasks i)
 
 -- the run of a workload: w minutes from minute t
 unfoldable pub work_log : Workload → (t w : ℕ) → List ℕ
-work_log work t w = log_of work.count (at_position 0 work.ready) (at_position 0 work.minutes) t w
+work_log work t w = log_of work.count (ready_in work.tasks) (left_in work.tasks) t w
 
 -- what became of position i after a log that starts at minute t
 unfoldable pub outcome_at : Workload → ℕ → List ℕ → ℕ → Outcome
-outcome_at work t log i = outcome_of (at_position false work.aside i) (at_position 0 work.minutes i) t log i
+outcome_at work t log i = outcome_of (at_position no_task work.tasks i).minutes t log i

@@ -7,21 +7,22 @@ use crate::log::{entries, up_to_last};
 
 // Document 01: "For each batch the run answers one of: set aside; finished, with the minute after its last;
 // unfinished, with the minutes left."
-#[derive(Clone, Copy)]
+#[derive(Clone, Copy, Debug, PartialEq, Eq)]
 pub enum Outcome {
     SetAside,
     Finished(u16),
     Unfinished(u16),
 }
 
-// Of the job at a position, whose minutes to read are given, after a log that starts at the opening.
-pub fn outcome_of(aside: bool, minutes: u16, opening: u16, log: &[u8], position: u8) -> Outcome
+// Of the job at a position, whose minutes to read are given (None: it is set aside), after a log that starts at the opening.
+#[tactic(auto, using(crate::proofs::Counts::entries_short, crate::proofs::Counts::up_to_last_short), unfolding(crate::specs::Run::outcome_of))]
+pub fn outcome_of(minutes: Option<u16>, opening: u16, log: &[u8], position: u8) -> Outcome
     requires { opening + length log.now ≤ max16 }
-    ensures { result ≡ outcome_of aside minutes opening log.now position }
+    ensures { result ≡ outcome_of minutes opening log.now position }
 {
-    if aside {
+    let Some(minutes) = minutes else {
         return Outcome::SetAside;
-    }
+    };
     let got = entries(log, position) as u16;
     if minutes <= got {
         return Outcome::Finished(opening + (up_to_last(log, position) as u16));

@@ -1,26 +1,39 @@
 // What the station has to read.
 ghost use Rattle.std.specs.Prelude.{◌≡◌};
-ghost use Rattle.jobs.specs.Model.{minutes_of};
 ghost use Rattle.jobs.specs.Contract.{Names};
-ghost use Rattle.edf.specs.Workload.{workload_of};
+ghost use Rattle.edf.specs.Workload.{left_of, is_pending, workload_of};
 
-use jobs::model::{JobList, Version};
+use jobs::model::JobList;
 
-// For each job, in list order, the minute from which the station can read it, its minutes to read, and whether it is set aside: a
-// job that has nothing to read need not be.
-#[derive(Clone, Copy)]
-pub struct Workload {
-    pub count: usize,
-    pub ready: [u16; JobList::MAX_JOBS],
-    pub minutes: [u16; JobList::MAX_JOBS],
-    pub aside: [bool; JobList::MAX_JOBS],
+// One job as the station sees it: the minute from which it can be read, and the minutes to read; None: it is set aside. A job that has
+// nothing to read need not be set aside.
+#[derive(Clone, Copy, Debug, PartialEq, Eq)]
+pub struct Task {
+    pub ready: u16,
+    pub minutes: Option<u16>,
 }
 
-// The minutes that the station has to read of a version.
-fn minutes_of(v: Version) -> u16
-    ensures { result ≡ minutes_of v }
-{
-    if v.read { v.cost } else { 0 }
+impl Task {
+    // A job that is set aside has nothing to read.
+    pub(crate) fn left(self) -> u16
+        ensures { result ≡ left_of self }
+    {
+        self.minutes.unwrap_or(0)
+    }
+
+    // Whether the station can read the job in this minute.
+    pub(crate) fn is_pending(self, minute: u16) -> bool
+        ensures { result ≡ is_pending minute self }
+    {
+        self.ready <= minute && 0 < self.left()
+    }
+}
+
+// The tasks of a list's jobs, in list order: the first `count` of the array, by value as the list is.
+#[derive(Clone, Copy, Debug, PartialEq, Eq)]
+pub struct Workload {
+    pub count: usize,
+    pub tasks: [Task; JobList::MAX_JOBS],
 }
 
 // What a choice, in list order, gives the station to read.
@@ -28,22 +41,19 @@ pub fn workload_of(list: JobList, choice: &[u8]) -> Workload
     requires { Names list choice.now }
     ensures { result ≡ workload_of list choice.now }
 {
-    let jobs = list.jobs;
-    let n = list.count;
-    let mut ready = [0; JobList::MAX_JOBS];
-    let mut minutes = [0; JobList::MAX_JOBS];
-    let mut aside = [false; JobList::MAX_JOBS];
-    for i in 0..n {
-        let j = jobs[i];
-        let v = j.version(choice[i]);
-        ready[i] = j.ready;
-        minutes[i] = minutes_of(v);
-        aside[i] = !v.read;
+    let mut tasks = [Task {
+        ready: 0,
+        minutes: None,
+    }; JobList::MAX_JOBS];
+    for (i, job) in list.jobs[..list.count].iter().enumerate() {
+        let version = job.version(choice[i]);
+        tasks[i] = Task {
+            ready: job.ready,
+            minutes: version.read.then_some(version.cost),
+        };
     }
     Workload {
-        count: n,
-        ready,
-        minutes,
-        aside,
+        count: list.count,
+        tasks,
     }
 }

@@ -2,9 +2,8 @@
 // each, is answered as case W is.
 #![tactic(auto)]
 
-ghost use Rattle.io.specs.Counts.{IsPrefixLen};
-
-use answer::operation::{AnswerText, check_text, choose_text, run_text};
+use answer::line::AnswerText;
+use answer::operation::{check_text, choose_text, run_text};
 use week::record::{Batch, Recipe, Week};
 
 // Refused by 4, 5 and 9 if it counted.
@@ -51,12 +50,8 @@ fn case_w() -> Week {
     week
 }
 
-fn say(rt: &impl Print, text: AnswerText)
-    requires { IsPrefixLen text.len text.bytes }
-{
-    let bytes = text.bytes;
-    let len = text.len;
-    let _ = rt.write_all(&bytes[0..len]);
+fn say(rt: &impl Print, text: AnswerText) {
+    let _ = rt.write_all(text.as_bytes());
 }
 
 fn main(rt: HostRuntime) {

@@ -39,7 +39,8 @@ module _ (list : JobList) (choice : List ℕ) where
   each_long array (suc n) x meeting same i low high =
       let job = at_position no_job list.jobs (suc n) in
       let version = version_at list choice (suc n) in
-      let met = (and-eq-true_iff _ _).0 meeting in
+      let before = meets (backward no_job list.jobs n) (next_bound job version x) (backward 0 choice n) in
+      let met : (fits job version x ≡ true) × (before ≡ true) = (and-eq-true_iff _ _).0 meeting in
       elim (ℕ_discrete i (suc n)) [
         | yes e ↦
             let here : get_or array n no_stretch ≡ stretch_of job version x = cc in

@@ -1,10 +1,12 @@
 -- The pass of the rule over a choice, from the last job to the first: what holds before each job.
-use Prim.Native.Nat.{ℕ, suc, ◌≤◌}
+use Prim.Native.Nat.{ℕ, suc, ◌+◌, ◌≤◌}
+use native.Mathlib.Numerals.{add-one}
 use native.Mathlib.Omega.{arith}
 use mathlib.Core.Path.{◌≡◌, refl, sym, ap, subst, ◌∙◌}
 use mathlib.Core.Bool.{true, false}
 use mathlib.Core.List.{List}
 use lib.ListN.{length, get_or, set, replicate}
+use Rattle.std.specs.Prelude.{Ok, Err}
 use Rattle.arrays.specs.Position.{backward}
 use Rattle.arrays.proofs.Places.{length_backward, length_placed, placed_beyond, backward_placed, replicate_at}
 use Rattle.arrays.proofs.Stores.{Filled, filled_step, filled_all}
@@ -85,16 +87,15 @@ module _
                 here.filled;
           }
 
-      -- it does not: the rule's answer is this position
+      -- it does not: the rule's answer is the position, counted from 1
       pub pass_fails : fits (get_or jobs at no_job) v bound ≡ false →
-          record { failing = i; stretches = replicate max_jobs no_stretch }
-          ≡ stretched (backward no_job jobs n) close (backward 0 choice n)
+          Err (record { position = at + 1 }) ≡ stretched (backward no_job jobs n) close (backward 0 choice n)
       pass_fails unfit =
-          rw last (sym (stretched_fails _ _ _ at ((rw (← named, unfit) at here.fails) ∙ ap suc (length_backward no_job jobs at))))
+          rw add-one
+          (sym (stretched_fails _ _ _ at ((rw (← named, unfit) at here.fails) ∙ ap suc (length_backward no_job jobs at))))
 
     -- no job is left: the rule's answer is the array
-    pub pass_end : i ≡ 0 →
-        record { failing = 0; stretches = array } ≡ stretched (backward no_job jobs n) close (backward 0 choice n)
+    pub pass_end : i ≡ 0 → Ok array ≡ stretched (backward no_job jobs n) close (backward 0 choice n)
     pass_end first =
         let end : Pass jobs choice close n array bound 0 = subst (λ (k : ℕ). Pass jobs choice close n array bound k) first h in
         rw (

@@ -5,15 +5,16 @@ use mathlib.Core.Path.{◌≡◌, refl, ap}
 use mathlib.Core.Logic.{◌↔◌}
 use mathlib.Core.Bool.{Bool, true, false, cond, ◌&&◌, false≢true}
 use mathlib.Core.List.{List, [], ◌∷◌}
-use lib.ListN.{length, replicate}
+use lib.ListN.{length}
 use lib.Dec.{eqb-suc-zero}
 use borrow.Author.Tests.{leb-true}
+use Rattle.std.specs.Prelude.{Ok, Err}
 use Rattle.jobs.specs.declared.model.Version.{Version}
 use Rattle.jobs.specs.declared.model.Job.{Job}
-use Rattle.jobs.specs.Model.{max_jobs, version_of}
+use Rattle.jobs.specs.Model.{version_of}
 use Rattle.jobs.specs.Rule.{end_of, stretch_of, fits, next_bound, meets, failing, stretches}
 use Rattle.jobs.specs.Choice.{Valid}
-use Rattle.jobs.specs.Stretches.{no_stretch, stretches_of}
+use Rattle.jobs.specs.Stretches.{stretches_of}
 use Rattle.jobs.specs.Contract.{stretched}
 
 -- a version that is read and fits: its minutes lie between the job's ready minute and the end of its stretch
@@ -80,12 +81,11 @@ length_stretches (j ∷ js) x [] h = h
 length_stretches (j ∷ js) x (k ∷ ks) h = ap suc (length_stretches js (next_bound j (version_of j k) x) ks (omega arith))
 
 -- the rule's answer where it is met, and where position n fails
-pub stretched_meets : (js : List Job) (x : ℕ) (ks : List ℕ) → failing js x ks ≡ 0 →
-    stretched js x ks ≡ record { failing = 0; stretches = stretches_of js x ks }
+pub stretched_meets : (js : List Job) (x : ℕ) (ks : List ℕ) → failing js x ks ≡ 0 → stretched js x ks ≡ Ok (stretches_of js x ks)
 unfolding stretched
 stretched_meets js x ks h = rw h
 
 pub stretched_fails : (js : List Job) (x : ℕ) (ks : List ℕ) (n : ℕ) → failing js x ks ≡ suc n →
-    stretched js x ks ≡ record { failing = suc n; stretches = replicate max_jobs no_stretch }
+    stretched js x ks ≡ Err (record { position = suc n })
 unfolding stretched
 stretched_fails js x ks n h = rw (h, eqb-suc-zero)

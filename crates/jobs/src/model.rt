@@ -3,17 +3,18 @@ ghost use Rattle.std.specs.Prelude.{◌≡◌, ◌≤◌};
 ghost use Rattle.jobs.specs.Model.{max_versions, version_of};
 
 // One way to read a job. Document 01 calls it a recipe.
-#[derive(Clone, Copy)]
+#[derive(Clone, Copy, Debug, PartialEq, Eq)]
 pub struct Version {
-    // Whether the station reads the job; if not, it is set aside. The record layer decides: a cost of 0 does not say it.
+    // Whether the station reads the job; if not, it is set aside. A flag, and no `Option` of the cost: the record layer decides it on the
+    // cost as it is written, whatever minutes it plans with.
     pub read: bool,
     pub cost: u16,
     // Wide enough for a written worth times a weight.
     pub worth: u32,
 }
 
-// Document 01 calls it a batch.
-#[derive(Clone, Copy)]
+// Document 01 calls it a batch. By value, an array with a count, as 01 holds a list and its recipes.
+#[derive(Clone, Copy, Debug, PartialEq, Eq)]
 pub struct Job {
     pub ready: u16,
     pub due: u16,
@@ -29,13 +30,12 @@ impl Job {
         requires { (1 ≤ k) × (k ≤ max_versions) }
         ensures { result ≡ version_of self k }
     {
-        let at = (k as usize) - 1;
-        self.versions[at]
+        self.versions[usize::from(k) - 1]
     }
 }
 
 // The jobs of a week, in list order: the first `count` of the array.
-#[derive(Clone, Copy)]
+#[derive(Clone, Copy, Debug, PartialEq, Eq)]
 pub struct JobList {
     pub count: usize,
     pub jobs: [Job; JobList::MAX_JOBS],

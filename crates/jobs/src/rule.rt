@@ -7,17 +7,16 @@ ghost use Rattle.jobs.specs.Contract.{Names, stretched};
 use crate::model::{Job, JobList, Version};
 
 // The minutes that the rule keeps for a job: from start to end, end not counted.
-#[derive(Clone, Copy)]
+#[derive(Clone, Copy, Debug, PartialEq, Eq)]
 pub struct Stretch {
     pub start: u16,
     pub end: u16,
 }
 
-// The rule's answer for a choice: 0 and a stretch for each job in list order, or the position where it fails.
-#[derive(Clone, Copy)]
-pub struct Stretched {
-    pub failing: usize,
-    pub stretches: [Stretch; JobList::MAX_JOBS],
+// A choice does not meet the rule: the first position, counted from 1, that fails going backward.
+#[derive(Clone, Copy, Debug, PartialEq, Eq)]
+pub struct Failing {
+    pub position: usize,
 }
 
 impl Job {
@@ -25,26 +24,25 @@ impl Job {
     fn stretch_end(self, bound: u16) -> u16
         ensures { result ≡ end_of self bound }
     {
-        if self.due < bound { self.due } else { bound }
+        self.due.min(bound)
     }
 
-    // Whether version v of this job meets the rule under a bound.
-    fn fits(self, v: Version, bound: u16) -> bool
-        ensures { result ≡ fits_of self v bound }
+    // Whether a version of this job meets the rule under a bound.
+    #[tactic(auto, unfolding(crate::specs::Rule::fits))]
+    fn fits(self, version: Version, bound: u16) -> bool
+        ensures { result ≡ fits_of self version bound }
     {
-        if !v.read {
-            return true;
-        }
-        let end = self.stretch_end(bound);
-        (self.ready as u32) + (v.cost as u32) <= (end as u32)
+        !version.read
+            || u32::from(self.ready) + u32::from(version.cost) <= u32::from(self.stretch_end(bound))
     }
 
-    // The stretch of version v of this job under a bound.
-    pub fn stretch(self, v: Version, bound: u16) -> Stretch
-        requires { fits_of self v bound ≡ true }
-        ensures { result ≡ stretch_of self v bound }
+    // The stretch of a version of this job under a bound.
+    #[tactic(auto, using(crate::proofs::Rules::fits_read), unfolding(crate::specs::Rule::stretch_of))]
+    pub fn stretch(self, version: Version, bound: u16) -> Stretch
+        requires { fits_of self version bound ≡ true }
+        ensures { result ≡ stretch_of self version bound }
     {
-        if !v.read {
+        if !version.read {
             return Stretch {
                 start: bound,
                 end: bound,
@@ -52,39 +50,32 @@ impl Job {
         }
         let end = self.stretch_end(bound);
         Stretch {
-            start: end - v.cost,
+            start: end - version.cost,
             end,
         }
     }
 }
 
-// Going backward from the close: the stretches of a choice, or the first position that fails.
-pub fn stretch_all(list: JobList, close: u16, choice: &[u8]) -> Stretched
+// Going backward from the close: the stretches of a choice, each in its job's place, or the first position that fails.
+pub fn stretch_all(
+    list: JobList,
+    close: u16,
+    choice: &[u8],
+) -> Result<[Stretch; JobList::MAX_JOBS], Failing>
     requires { Names list choice.now }
     ensures { result ≡ stretched (jobs_of list) close (chosen list choice.now) }
 {
-    let nothing = [Stretch { start: 0, end: 0 }; JobList::MAX_JOBS];
-    let jobs = list.jobs;
-    let mut stretches = nothing;
+    let mut stretches = [Stretch { start: 0, end: 0 }; JobList::MAX_JOBS];
     let mut bound = close;
-    let mut i = list.count;
-    while 0 < i {
-        let at = i - 1;
-        let j = jobs[at];
-        let v = j.version(choice[at]);
-        if !j.fits(v, bound) {
-            return Stretched {
-                failing: i,
-                stretches: nothing,
-            };
+    for i in (0..list.count).rev() {
+        let job = list.jobs[i];
+        let version = job.version(choice[i]);
+        if !job.fits(version, bound) {
+            return Err(Failing { position: i + 1 });
         }
-        let s = j.stretch(v, bound);
-        stretches[at] = s;
-        bound = s.start;
-        i = at;
+        let stretch = job.stretch(version, bound);
+        stretches[i] = stretch;
+        bound = stretch.start;
     }
-    Stretched {
-        failing: 0,
-        stretches,
-    }
+    Ok(stretches)
 }

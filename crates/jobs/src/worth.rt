@@ -11,13 +11,9 @@ pub fn total(list: JobList, choice: &[u8]) -> u32
     requires { Answerable list choice.now }
     ensures { result ≡ total_of (jobs_of list) (chosen list choice.now) }
 {
-    let jobs = list.jobs;
-    let n = list.count;
     let mut sum: u64 = 0;
-    for i in 0..n {
-        let j = jobs[i];
-        let v = j.version(choice[i]);
-        sum += v.worth as u64;
+    for (job, &k) in list.jobs[..list.count].iter().zip(choice) {
+        sum += u64::from(job.version(k).worth);
     }
     sum as u32
 }

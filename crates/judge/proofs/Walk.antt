@@ -6,37 +6,28 @@ use native.Mathlib.Omega.{arith}
 use mathlib.Core.Path.{◌≡◌, refl, sym, ap, ap₂, ◌∙◌}
 use mathlib.Core.Bool.{Bool, ◌||◌}
 use mathlib.Core.List.{List, [], ◌∷◌}
-use lib.ListN.{get_or, set, replicate, length-replicate}
+use lib.ListN.{length, get_or, take}
+use lib.Seq.{get_or-take}
 use lib.Dec.{eqb}
 use Rattle.arrays.proofs.Each.{below_same}
-use Rattle.arrays.proofs.Tabulates.{tabulate_at}
-use Rattle.arrays.proofs.Stores.{Tabulated, tabulated_start, tabulated_step}
 use Rattle.week.specs.declared.record.Batch.{Batch}
 use Rattle.week.specs.declared.record.Week.{Week}
 use Rattle.week.specs.declared.refusal.Refusal.{Refusal}
-use Rattle.week.specs.Record.{max_batches, batch_at, number_at}
+use Rattle.week.specs.Record.{no_batch, batch_at, number_at}
+use Rattle.week.specs.Numbers.{number_in}
 use Rattle.week.specs.Refusal.{accepted, refused, refused_if, first_of, first, at_place}
 use Rattle.judge.specs.BatchFault.{before_costs, costs_fault, worths_fault}
-use Rattle.judge.specs.Fault.{number_fault, order_fault, later_faults, batch_faults, batch_fault}
+use Rattle.judge.specs.Fault.{number_fault, order_fault, last_among, later_faults, batch_faults, batch_fault}
 use Rattle.week.proofs.First.{number_of_lem, refuses_too, place_refused, place_number, first_of_here, first_of_later, append_first}
 use Rattle.week.proofs.First.{append_rest, search_found, search_on, search_over}
 
--- before the batch of index i: the batches from there on decide, the array has the numbers that stand earlier, and `previous` is
--- the batch before
-pub record Walk (w : Week) (numbers : List ℕ) (previous : Batch) (i : ℕ) : Type 0 where
+-- before the batch of index i: the batches from there on decide
+pub record Walk (w : Week) (i : ℕ) : Type 0 where
   pub within : i ≤ w.count
   pub rest : first (batch_fault w) i (w.count - i) ≡ first (batch_fault w) 0 w.count
-  pub earlier : Tabulated (number_at w) max_batches 0 i numbers
-  pub stood : 0 < i → previous ≡ batch_at w (i - 1)
 
-pub walk_start : (w : Week) (previous : Batch) → Walk w (replicate max_batches 0) previous 0
-walk_start w previous =
-    record {
-      within = omega arith;
-      rest = rw sub-zero;
-      earlier = tabulated_start (number_at w) max_batches 0 (replicate max_batches 0) (length-replicate {A = ℕ} max_batches 0);
-      stood = λ some. absurd (omega arith);
-    }
+pub walk_start : (w : Week) → Walk w 0
+walk_start w = record { within = omega arith; rest = rw sub-zero }
 
 -- which part of a batch's order decides
 module _ (w : Week) (i : ℕ) where
@@ -57,26 +48,33 @@ unfolding order_fault
 order_same t zero a a' b same = refl
 order_same t (suc i) a a' b same = rw (same (omega arith))
 
-module _ {w : Week} {numbers : List ℕ} {previous : Batch} {i : ℕ} (h : Walk w numbers previous i) where
-  same_numbers : number_fault (λ k. get_or numbers k 0) i (batch_at w i) ≡ number_fault (number_at w) i (batch_at w i)
+-- those that stand earlier are the first i of the list
+module _ (w : Week) (i : ℕ) {earlier : List Batch} (first_i : earlier ≡ take i w.batches) (size : length earlier ≡ i) where
+  entry : (k : ℕ) → k < i → get_or earlier k no_batch ≡ batch_at w k
+  entry k l = ap (λ (bs : List Batch). get_or bs k no_batch) first_i ∙ get_or-take i w.batches k no_batch l
+
+  same_numbers : number_fault (number_in earlier) (length earlier) (batch_at w i) ≡ number_fault (number_at w) i (batch_at w i)
   unfolding number_fault
   same_numbers =
-      ap (λ (q : Bool). refused_if 9 0 0 (eqb (number_at w i) 0 || q))
-      (below_same _ _ i (λ k l.
-      ap (λ (n : ℕ). eqb n (number_at w i))
-      (h.earlier.filled.done k l ∙ tabulate_at (number_at w) max_batches k 0 (omega (arith, h.earlier.within)))))
+      ap (λ (n : ℕ). number_fault (number_in earlier) n (batch_at w i)) size
+      ∙ ap (λ (q : Bool). refused_if 9 0 0 (eqb (number_at w i) 0 || q))
+      (below_same _ _ i (λ k l. ap (λ (b : Batch). eqb b.number (number_at w i)) (entry k l)))
 
-  same_order : order_fault w.opening i previous (batch_at w i) ≡ order_fault w.opening i (batch_at w (i - 1)) (batch_at w i)
-  same_order = order_same w.opening i previous (batch_at w (i - 1)) (batch_at w i) h.stood
+  same_order : order_fault w.opening (length earlier) (last_among earlier) (batch_at w i)
+      ≡ order_fault w.opening i (batch_at w (i - 1)) (batch_at w i)
+  same_order =
+      ap (λ (n : ℕ). order_fault w.opening n (get_or earlier (n - 1) no_batch) (batch_at w i)) size
+      ∙ order_same w.opening i _ _ (batch_at w i) (λ some. entry (i - 1) (omega arith))
 
   -- 4 to 7 pass: 8 to 10 decide
   pub faults_later : (early w i).number ≡ 0 → (costs_fault (batch_at w i)).number ≡ 0 →
-      {x : Refusal} → x ≡ first_of (later_faults w.opening numbers i previous (batch_at w i)) → x ≡ first_of (batch_faults w i)
+      {x : Refusal} → x ≡ first_of (later_faults w.opening earlier (batch_at w i)) → x ≡ first_of (batch_faults w i)
   faults_later passed costs e =
       e
       ∙ ap₂ (λ (number order : Refusal). first_of (worths_fault (batch_at w i) ∷ number ∷ order ∷ [])) same_numbers same_order
       ∙ sym (append_rest (before_costs w.closing (batch_at w i)) _ passed ∙ first_of_later _ _ costs)
 
+module _ {w : Week} {i : ℕ} (h : Walk w i) where
   module _ (more : i < w.count) where
     -- x refuses the batch: in its place it is the answer
     pub walk_refused : {x : Refusal} → x ≡ first_of (batch_faults w i) → (x.number ≡ 0 → ⊥) → {r : Refusal} →
@@ -87,18 +85,10 @@ module _ {w : Week} {numbers : List ℕ} {previous : Batch} {i : ℕ} (h : Walk 
         (e ∙ rw (add-one i) (sym (place_refused (suc i) x n)) ∙ ap (at_place (suc i)) is)
         (λ z. n (sym (number_of_lem e) ∙ z))
 
-    -- the batch passes: it is the batch before the next
-    pub walk_on : w.count ≤ max_batches → (first_of (batch_faults w i)).number ≡ 0 → {number : ℕ} → number ≡ number_at w i →
-        {b : Batch} → b ≡ batch_at w i → Walk w (set numbers i number) b (i + 1)
+    -- the batch passes
+    pub walk_on : (first_of (batch_faults w i)).number ≡ 0 → Walk w (i + 1)
     unfolding batch_fault
-    walk_on most z same is =
-        let e : i ≡ i + 1 - 1 = omega arith in
-        record {
-          within = omega arith;
-          rest = search_on _ _ _ h.rest more (place_number _ _ ∙ z);
-          earlier = tabulated_step h.earlier (omega arith) same;
-          stood = λ some. is ∙ ap (batch_at w) e;
-        }
+    walk_on z = record { within = omega arith; rest = search_on _ _ _ h.rest more (place_number _ _ ∙ z) }
 
   pub walk_over : w.count ≤ i → accepted ≡ first (batch_fault w) 0 w.count
   walk_over over = search_over _ _ _ h.rest over

@@ -5,7 +5,8 @@ use Rattle.arrays.specs.Each.{some_below}
 use Rattle.week.specs.declared.record.Batch.{Batch}
 use Rattle.week.specs.declared.record.Week.{Week}
 use Rattle.week.specs.declared.refusal.Refusal.{Refusal}
-use Rattle.week.specs.Record.{max_minutes, max_batches, batch_at, number_at}
+use Rattle.week.specs.Record.{max_minutes, max_batches, no_batch, batch_at, number_at}
+use Rattle.week.specs.Numbers.{number_in}
 use Rattle.week.specs.Order.{before}
 use Rattle.week.specs.Refusal.{accepted, refused_if, first_of, first, at_place}
 use Rattle.judge.specs.BatchFault.{worths_fault, own_faults}
@@ -26,10 +27,17 @@ number_fault numbers n b = refused_if 9 0 0 (eqb b.number 0 || some_below (λ h.
 unfoldable pub order_fault : ℕ → ℕ → Batch → Batch → Refusal
 order_fault t i a b = refused_if 10 0 0 (ltb 0 i && not (before t a b))
 
--- 8 to 10 of batch b of index i, as a walk over the list asks them: the numbers that stand earlier are an array's first i, and a is the
--- batch before
-abbrev pub later_faults : ℕ → List ℕ → ℕ → Batch → Batch → List Refusal
-later_faults t numbers i a b = worths_fault b ∷ number_fault (λ h. get_or numbers h 0) i b ∷ order_fault t i a b ∷ []
+-- the last of those that stand earlier
+abbrev pub last_among : List Batch → Batch
+last_among earlier = get_or earlier (length earlier - 1) no_batch
+
+-- 8 to 10 of batch b, as a walk over the list asks them: after those that stand earlier
+abbrev pub later_faults : ℕ → List Batch → Batch → List Refusal
+later_faults t earlier b =
+    worths_fault b
+    ∷ number_fault (number_in earlier) (length earlier) b
+    ∷ order_fault t (length earlier) (last_among earlier) b
+    ∷ []
 
 -- 4 to 10 over the batch of index i, in the paper's order: its own, then what the list has against it
 abbrev pub batch_faults : Week → ℕ → List Refusal

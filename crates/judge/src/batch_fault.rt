@@ -2,38 +2,42 @@
 ghost use Rattle.std.specs.Prelude.{◌≡◌, ◌≤◌};
 ghost use Rattle.week.specs.Record.{max_recipes};
 ghost use Rattle.week.specs.Refusal.{first_of};
+ghost use Rattle.week.specs.Fault.{refusal_of};
 ghost use Rattle.judge.specs.BatchFault.{before_costs, worths_fault};
 
 use week::record::Batch;
-use week::refusal::Refusal;
+use week::refusal::{Fault, Reason};
 
 // 4 to 6, asked before the costs: how many recipes the batch has, its due minute and its arrival.
-pub(crate) fn before_costs(closing: u16, b: Batch) -> Refusal
-    ensures { result ≡ first_of (before_costs closing b) }
+#[tactic(auto, unfolding(week::specs::Refusal::first_of, week::specs::Refusal::or_else, week::specs::Refusal::refused_if))]
+pub(crate) fn before_costs(closing: u16, b: Batch) -> Result<(), Fault>
+    ensures { refusal_of result ≡ first_of (before_costs closing b) }
 {
     if b.count == 0 || Batch::MAX_RECIPES < b.count {
-        return Refusal::at(4, 0, 0);
+        return Err(Fault::of(Reason::RecipeCount));
     }
     if b.due <= b.arrival {
-        return Refusal::at(5, 0, 0);
+        return Err(Fault::of(Reason::DueTooSoon));
     }
     if closing <= b.arrival {
-        return Refusal::at(6, 0, 0);
+        return Err(Fault::of(Reason::ArrivesTooLate));
     }
-    Refusal::none()
+    Ok(())
 }
 
 // 8: a recipe of cost 0 with a worth.
-pub(crate) fn worths_fault(b: Batch) -> Refusal
+#[tactic(auto, unfolding(crate::specs::BatchFault::worth_fault, week::specs::Refusal::refused_if))]
+pub(crate) fn worths_fault(b: Batch) -> Result<(), Fault>
     requires { b.count ≤ max_recipes }
-    ensures { result ≡ worths_fault b }
+    ensures { refusal_of result ≡ worths_fault b }
 {
-    let n = b.count;
-    for k in 0..n {
-        let r = b.recipes[k];
+    for (k, r) in b.recipes[..b.count].iter().enumerate() {
         if r.cost == 0 && 0 < r.worth {
-            return Refusal::at(8, 0, k + 1);
+            return Err(Fault {
+                recipe: k + 1,
+                ..Fault::of(Reason::WorthWithoutCost)
+            });
         }
     }
-    Refusal::none()
+    Ok(())
 }

@@ -1,16 +1,16 @@
--- Where a run of bytes ends.
+-- The first run of some bytes.
 use Prim.Native.Nat.{ℕ, zero, suc, ◌+◌, ◌-◌, ◌≤◌, ◌<◌}
-use native.Mathlib.Numerals.{add-one}
+use native.Mathlib.Numerals.{unary_clauses}
 use native.Mathlib.Omega.{arith}
-use mathlib.Core.Path.{◌≡◌, refl, sym, ap, ◌∙◌}
-use mathlib.Core.List.{List, [], ◌∷◌, ◌++◌, append_assoc}
-use lib.ListN.{length, get_or, drop, replicate, replicate-append-replicate}
-use lib.Seq.{drop-cons, drop-length}
+use mathlib.Core.Path.{◌≡◌, refl, ap, ◌∙◌}
+use mathlib.Core.Bool.{false}
+use mathlib.Core.List.{List, [], ◌∷◌, ◌++◌}
+use lib.ListN.{length, get_or, replicate}
 use lib.Dec.{eqb}
-use borrow.Author.Tests.{eq-eqb, ne_eqb}
+use borrow.Author.Tests.{eq-eqb, ne_eqb, eqb-false}
+use Rattle.std.specs.List.{IsChunkByPrefix}
 use Rattle.arrays.proofs.Cases.{cond_both}
 use Rattle.lent.specs.Shown.{Run, run_of, joined, runs_of, Other}
-use Rattle.lent.specs.Contract.{RunEnd}
 
 -- a byte of another value than the first run's is a run of its own
 own_run : (v : ℕ) (runs : List Run) → Other v runs → joined v runs ≡ run_of v 1 ∷ runs
@@ -33,49 +33,27 @@ first_run v (suc zero) rest some other = own_run v (runs_of rest) other
 first_run v (suc (suc n)) rest some other =
     ap (joined v) (first_run v (suc n) rest (omega arith) other) ∙ rw (eq-eqb v v refl)
 
--- a search for the end of a run: the bytes from `start` up to i are of one value
-pub record Alike (bytes : List ℕ) (start i : ℕ) : Type 0 where
-  pub after : start < i
-  pub within : i ≤ length bytes
-  pub same : drop start bytes ≡ replicate (i - start) (get_or bytes start 0) ++ drop i bytes
+-- a front whose bytes each equal the next, and the longest such, is the first run
+module _ (left : List ℕ) where
+  abbrev pub IsChunk : List ℕ → Type 0
+  IsChunk front = IsChunkByPrefix eqb (front ++ left) (length front)
 
-pub alike_start : (bytes : List ℕ) (start : ℕ) → start < length bytes → Alike bytes start (start + 1)
-alike_start bytes start more =
-    let one : start + 1 - start ≡ 1 = omega arith in
-    record { after = omega arith; within = omega arith; same = rw (one, add-one start) (drop-cons bytes start 0 more) }
+  shorter : (b c : ℕ) (front : List ℕ) → IsChunk (b ∷ c ∷ front) → IsChunk (c ∷ front)
+  shorter b c front cut = (
+    λ k d more. simp unary_clauses (simp unary_clauses at (cut.0 (k + 1) d (omega arith))),
+    λ more d.
+        let before : length (b ∷ c ∷ front) - 1 ≡ suc (length (c ∷ front) - 1) = omega arith in
+        rw before at (cut.1 (omega arith) d),
+  )
 
-module _ {bytes : List ℕ} {start i : ℕ} (h : Alike bytes start i) where
-  abbrev v : ℕ
-  v = get_or bytes start 0
-
-  pub alike_step : i < length bytes → get_or bytes i 0 ≡ v → Alike bytes start (i + 1)
-  alike_step more e =
-      let size : i + 1 - start ≡ i - start + 1 = omega (arith, h.after) in
-      record {
-        after = omega (arith, h.after);
-        within = omega arith;
-        same =
-            h.same
-            ∙ rw (drop-cons bytes i 0 more, e, size, ← replicate-append-replicate (i - start) 1 v, append_assoc, add-one i);
-      }
-
-  ended : Other v (runs_of (drop i bytes)) → RunEnd bytes start i
-  ended other =
-      record {
-        after = h.after;
-        within = h.within;
-        runs = ap runs_of h.same ∙ first_run v (i - start) (drop i bytes) (omega (arith, h.after)) other;
-      }
-
-  -- it is found ..
-  pub alike_found : i < length bytes → (get_or bytes i 0 ≡ v → ⊥) → RunEnd bytes start i
-  unfolding runs_of
-  alike_found more other =
-      ended (rw (drop-cons bytes i 0 more) (first_other v (get_or bytes i 0) (runs_of (drop (suc i) bytes)) (λ e. other (sym e))))
-
-  -- .. or is that of the bytes
-  pub alike_over : length bytes ≤ i → RunEnd bytes start (length bytes)
-  unfolding runs_of
-  alike_over over =
-      let all : i ≡ length bytes = omega (arith, h.within) in
-      rw all at (ended (rw (all, drop-length bytes) tt))
+  pub first_chunk : (front : List ℕ) → 0 < length front → IsChunk front →
+      runs_of (front ++ left) ≡ run_of (get_or front 0 0) (length front) ∷ runs_of left
+  unfolding runs_of joined
+  first_chunk [] some cut = absurd (omega arith)
+  first_chunk (b ∷ []) some cut = own_run b (runs_of left) (other_after left cut.1)
+    where
+      other_after : (l : List ℕ) → (1 < length (b ∷ l) → (d : ℕ) → eqb b (get_or l 0 d) ≡ false) → Other b (runs_of l)
+      other_after [] ends = tt
+      other_after (c ∷ l) ends = first_other b c (runs_of l) (eqb-false b c (ends (omega arith) 0))
+  first_chunk (b ∷ c ∷ front) some cut =
+      ap (joined b) (first_chunk (c ∷ front) (omega arith) (shorter b c front cut)) ∙ rw (cut.0 0 0 (omega arith))

@@ -1,25 +1,23 @@
 -- Runs that are put into a text one after the other: the bytes that they take, and how far a loop over them has come.
-use Prim.Native.Nat.{ℕ, ◌+◌, ◌-◌, ◌*◌, ◌≤◌}
+use Prim.Native.Nat.{ℕ, ◌+◌, ◌*◌, ◌≤◌, ◌<◌}
 use native.Mathlib.Decide.{dec_lt}
 use native.Mathlib.Omega.{arith}
-use mathlib.Core.Path.{◌≡◌, refl, sym, ap, ap₂, subst, ◌∙◌}
+use mathlib.Core.Path.{◌≡◌, refl, sym, ap, ◌∙◌}
 use mathlib.Core.List.{List, [], ◌∷◌, ◌++◌, map, append_assoc}
-use lib.ListN.{length, get_or, take, drop, replicate, length-append, length-replicate, drop_of_length-le}
-use Rattle.io.specs.Counts.{IsPrefixLen}
+use lib.ListN.{length, get_or, length-append, get_or-append, length-take, take}
+use Rattle.std.proofs.lemmas.List.{get_or-append-add, get_or-take}
 use Rattle.arrays.specs.Text.{bytes, line_feed, space}
 use Rattle.text.specs.Decimal.{decimal}
-use Rattle.text.specs.Line.{rest_of}
-use Rattle.text.specs.Contract.{Puts}
+use Rattle.text.specs.Line.{spaced, rest_of}
 use Rattle.text.proofs.Decimals.{decimal_short}
-use Rattle.text.proofs.Putting.{puts_nothing, puts-length, puts_then, puts_padded, puts_counts}
-use Rattle.text.proofs.Spacing.{rest_more, rest_none}
+use Rattle.text.proofs.Spacing.{rest_more}
 use Rattle.lent.specs.Size.{max_table}
-use Rattle.lent.specs.Shown.{Run, run_of, runs_of, run_field, shown_rest, max_shown, shown_answer}
-use Rattle.lent.specs.Contract.{RunEnd}
+use Rattle.lent.specs.Shown.{run_of, runs_of, run_field, max_shown}
+use Rattle.lent.proofs.Runs.{IsChunk, first_chunk}
 
 -- a run takes at most six bytes of text for each of its own
 module _ (value count : ℕ) where
-  pub field-length : length (space ∷ run_field (run_of value count)) ≡ length (decimal value) + (2 + length (decimal count))
+  field-length : length (space ∷ run_field (run_of value count)) ≡ length (decimal value) + (2 + length (decimal count))
   unfolding run_field
   field-length =
       omega (arith, length-append (decimal value) (bytes "x" ++ decimal count))
@@ -31,74 +29,65 @@ module _ (value count : ℕ) where
         | no more ↦ omega (arith, field-length, decimal_short 2 value (omega arith), decimal_short 4 count (omega arith))
       ]
 
--- the bytes from a start on, as text
-abbrev rest : List ℕ → List ℕ
+-- bytes as text
+abbrev pub rest : List ℕ → List ℕ
 rest bytes = rest_of (map run_field (runs_of bytes))
 
--- the runs before `start` are put, and the bytes from there on are left
-pub record Showing (bytes before : List ℕ) (start : ℕ) (text : List ℕ) (end : ℕ) : Type 0 where
-  pub part : List ℕ
-  pub put : Puts before 0 part text end
-  pub left : part ++ rest (drop start bytes) ≡ rest bytes
-  pub within : start ≤ length bytes
-  pub short : end ≤ 6 * start
+-- some runs of the whole are put, and the bytes that are left have the others
+pub record Showing (whole left text : List ℕ) : Type 0 where
+  pub all : text ++ rest left ≡ rest whole
+  pub short : length text + 6 * length left ≤ 6 * max_table
+  pub small : (i : ℕ) → i < length left → get_or left i 0 ≤ 255
 
-pub showing_start : (bytes before : List ℕ) → Showing bytes before 0 before 0
-showing_start bytes before =
-    record { part = []; put = puts_nothing before 0 (omega arith); left = refl; within = omega arith; short = omega arith }
+module _ (lent : List ℕ) where
+  abbrev start : List ℕ
+  start = take max_table lent
 
-module _ {bytes before : List ℕ} {start : ℕ} {text : List ℕ} {end : ℕ} (h : Showing bytes before start text end) where
-  module _
-      (most : length bytes ≤ max_table) (small : get_or bytes start 0 ≤ 255) {next : ℕ} (ends : RunEnd bytes start next)
-    where
-      abbrev field : List ℕ
-      field = space ∷ run_field (run_of (get_or bytes start 0) (next - start))
+  start_short : length start ≤ max_table
+  start_short = rw length-take (omega arith)
 
-      field_fits : length field ≤ 6 * (next - start)
-      field_fits =
-          field_short (get_or bytes start 0) (next - start) small (omega (arith, ends.after)) (omega (arith, ends.within))
+  pub showing_start : ((i : ℕ) → get_or lent i 0 ≤ 255) → Showing start start []
+  showing_start small =
+      record {
+        all = refl;
+        short = omega (arith, start_short);
+        small = λ i more. rw (get_or-take max_table lent i 0 (omega (arith, start_short))) (small i);
+      }
 
-      -- there is room for the next run
-      pub showing_room : max_shown ≤ length before → end + length field ≤ length text
-      showing_room room =
-          omega (arith, field_fits, puts-length h.put, h.short, ends.after, ends.within)
+module _ {whole text : List ℕ} (front left : List ℕ) (h : Showing whole (front ++ left) text) (some : 0 < length front) where
+  abbrev field : List ℕ
+  field = space ∷ run_field (run_of (get_or front 0 0) (length front))
 
-      pub showing_step : {text' : List ℕ} {end' : ℕ} → Puts text end field text' end' → Showing bytes before next text' end'
-      showing_step g =
-          record {
-            part = h.part ++ field;
-            put = puts_then h.put g;
-            left =
-                append_assoc h.part field (rest (drop next bytes))
-                ∙ ap (λ (l : List ℕ). h.part ++ l)
-                (sym (rest_more (run_field (run_of (get_or bytes start 0) (next - start))) (map run_field (runs_of (drop next bytes)))))
-                ∙ ap (λ (runs : List Run). h.part ++ rest_of (map run_field runs)) (sym ends.runs)
-                ∙ h.left;
-            within = ends.within;
-            short = omega (arith, g.next, h.short, field_fits, ends.after);
-          }
+  field_fits : length field ≤ 6 * length front
+  field_fits =
+      field_short (get_or front 0 0) (length front) (rw (get_or-append front left 0 0 some) at (h.small 0 (omega (arith, length-append front left))))
+      (omega arith) (omega (arith, h.short, length-append front left))
 
-  -- there is room for the line feed
-  pub showing_last : length bytes ≤ max_table → max_shown ≤ length before → end + 1 ≤ length text
-  showing_last most room = omega (arith, h.short, h.within, puts-length h.put)
+  -- there is room for the next run
+  pub showing_room : length text + length field ≤ max_shown
+  showing_room = omega (arith, field_fits, h.short, length-append front left)
 
-  pub showing_end : length bytes ≤ start → {last : List ℕ} {stop : ℕ} → Puts text end (line_feed ∷ []) last stop →
-      Puts before 0 (rest bytes) last stop
-  unfolding runs_of
-  showing_end over g =
-      let fed = rw (drop_of_length-le bytes over, rest_none) at h.left in
-      rw fed at (puts_then h.put g)
+  pub showing_step : IsChunk left front → Showing whole left (text ++ field)
+  showing_step cut =
+      record {
+        all =
+            append_assoc text field (rest left)
+            ∙ ap (λ (l : List ℕ). text ++ l)
+            (sym (rest_more (run_field (run_of (get_or front 0 0) (length front))) (map run_field (runs_of left))))
+            ∙ rw (first_chunk left front some cut) at h.all;
+        short = omega (arith, field_fits, h.short, length-append front left, length-append text field);
+        small =
+            λ i more.
+            rw (get_or-append-add front left i 0) at (h.small (length front + i) (omega (arith, length-append front left)));
+      }
 
--- a text that is made all 0 has room for all, and what is put into it is the answer
-pub empty-length : {text : List ℕ} → text ≡ replicate max_shown 0 → max_shown ≤ length text
-empty-length empty = rw (empty, length-replicate {A = ℕ} max_shown 0) (omega arith)
+-- the line feed has room ..
+pub showing_last : {whole left text : List ℕ} → Showing whole left text → length text + 1 ≤ max_shown
+showing_last h = omega (arith, h.short)
 
-pub shown : (lent : List ℕ) {empty text : List ℕ} {end : ℕ} → empty ≡ replicate max_shown 0 →
-    Puts empty 0 (rest (take max_table lent)) text end → (record { bytes = text; len = end } ≡ shown_answer lent) × IsPrefixLen end text
-unfolding shown_rest
-shown lent {empty} {text} {end} made put = (
-  ap₂ (λ (bytes : List ℕ) (len : ℕ). record { bytes = bytes; len = len })
-      (puts_padded max_shown (subst (λ (l : List ℕ). Puts l 0 (rest (take max_table lent)) text end) made put))
-      (omega (arith, put.next)),
-  puts_counts put,
-)
+-- .. and is the end where no bytes are left
+pub showing_end : {whole text : List ℕ} (left : List ℕ) → length left ≡ 0 → Showing whole left text →
+    text ++ (line_feed ∷ []) ≡ rest whole
+unfolding runs_of spaced
+showing_end [] none h = h.all
+showing_end (b ∷ left) none h = absurd (omega arith)

@@ -1,4 +1,3 @@
 pub mod Size
 pub mod Shown
-pub mod Contract
 pub mod Examples

@@ -1,13 +1,11 @@
 -- The bytes of a table or a log, in runs: docs/WEEKDESK.md, ‘The operations’.
-use Rattle.std.specs.Prelude.{ℕ, suc, ◌+◌, ◌*◌, ◌≤◌, ◌≡◌, cond, length, take, replicate, eqb}
+use Rattle.std.specs.Prelude.{ℕ, suc, ◌+◌, ◌*◌, ◌≤◌, ◌≡◌, cond, take, replicate, eqb}
 use mathlib.Core.List.{List, [], ◌∷◌, ◌++◌, map, flatten}
 use Rattle.arrays.specs.Each.{All}
 use Rattle.arrays.specs.Text.{bytes}
-use Rattle.arrays.specs.Made.{padded}
 use Rattle.text.specs.Decimal.{decimal}
 use Rattle.text.specs.Line.{rest_of}
 use Rattle.lent.specs.Size.{max_table}
-use Rattle.lent.specs.declared.shown.ShownText.{ShownText}
 
 -- bytes of one value that are neighbours
 pub record Run : Type 0 where
@@ -37,10 +35,6 @@ shown_rest lent = rest_of (map run_field (runs_of (take max_table lent)))
 -- the longest text: each byte a run of its own, as ` 255x1`, and the line feed
 abbrev pub max_shown : ℕ
 max_shown = 6 * max_table + 1
-
--- by value: the text, with 0 beyond it, and its length
-abbrev pub shown_answer : List ℕ → ShownText
-shown_answer lent = record { bytes = padded max_shown 0 (shown_rest lent); len = length (shown_rest lent) }
 
 -- What the runs of some bytes are: spread out they are the bytes again; each has a byte or more; and neighbours are of different
 -- values. There are no others (`runs_only`).

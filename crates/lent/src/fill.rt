@@ -5,7 +5,5 @@ ghost use Rattle.std.specs.Prelude.{◌≡◌, length, replicate};
 pub fn fill(lent: &mut [u8], value: u8)
     ensures { lent.new ≡ replicate (length lent.old) value }
 {
-    for i in 0..lent.len() {
-        lent[i] = value;
-    }
+    lent.fill(value);
 }

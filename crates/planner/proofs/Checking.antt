@@ -1,25 +1,37 @@
 -- Check's answer: which refusal comes first, and what is answered then.
-use Prim.Native.Nat.{ℕ}
+use Prim.Native.Nat.{ℕ, zero, suc}
 use native.Mathlib.Omega.{arith}
 use mathlib.Core.Path.{◌≡◌, refl, sym, ap, ◌∙◌}
 use mathlib.Core.Bool.{not}
 use mathlib.Core.List.{List, [], ◌∷◌}
 use borrow.Author.Tests.{eq-eqb, ne_eqb}
-use Rattle.jobs.specs.declared.rule.Stretched.{Stretched}
+use Rattle.std.specs.Prelude.{Result, Ok, Err}
+use Rattle.jobs.specs.declared.rule.Stretch.{Stretch}
+use Rattle.jobs.specs.declared.rule.Failing.{Failing}
 use Rattle.jobs.specs.Rule.{failing}
+use Rattle.jobs.specs.Stretches.{stretches_of}
 use Rattle.jobs.specs.Choice.{total}
 use Rattle.jobs.specs.Contract.{stretched}
-use Rattle.jobs.proofs.Rules.{stretched_meets}
+use Rattle.jobs.proofs.Rules.{stretched_meets, stretched_fails}
 use Rattle.week.specs.declared.record.Week.{Week}
-use Rattle.week.specs.declared.refusal.Refusal.{Refusal}
+use Rattle.week.specs.declared.refusal.Reason.TheVariants.{BreaksTheRule}
+use Rattle.week.specs.declared.refusal.Fault.{Fault}
 use Rattle.week.specs.Refusal.{accepted, refused, first_of}
+use Rattle.week.specs.Fault.{fault_at, numbers, refusal_of}
 use Rattle.judge.specs.Fault.{handed_faults}
+use Rattle.week.proofs.Faults.{fault_refuses}
 use Rattle.week.proofs.First.{Proper, number_of_lem, refused_if_true, refused_if_false, refused_if_proper, first_of_proper, append_first}
 use Rattle.week.proofs.First.{append_last}
 use Rattle.week.proofs.Answering.{Answers, answers, answers_name}
 use Rattle.planner.specs.declared.check.Checked.{Checked}
 use Rattle.planner.specs.Job.{week_jobs, week_choice}
-use Rattle.planner.specs.Check.{rule_fault, check_fault, passed, refused_check, check_answer}
+use Rattle.planner.specs.Check.{CheckAnswer, rule_fault, check_fault, passed, refused_check, check_answer, checked_answer}
+
+-- the answer that the code's result is names what that refuses
+pub checked_names : (r : Result Checked Fault) → (checked_answer r).refusal ≡ refusal_of r
+unfolding refused_check
+checked_names (Ok checked) = refl
+checked_names (Err fault) = refl
 
 module _ (w : Week) (choice : List ℕ) where
   abbrev failed : ℕ
@@ -32,7 +44,7 @@ module _ (w : Week) (choice : List ℕ) where
   -- the refusal answered is the first of the order
   pub check_refusal : (check_answer w choice).refusal ≡ check_fault w choice
   unfolding check_fault passed refused_check
-  check_refusal = answers_name check_answers (λ (a : Checked). a.refusal) (λ z. refl) (λ r. refl) (first_of_proper _)
+  check_refusal = answers_name check_answers (λ (a : CheckAnswer). a.refusal) (λ z. refl) (λ r. refl) (first_of_proper _)
 
   pub fault_handed : ((first_of (handed_faults w choice)).number ≡ 0 → ⊥) → check_fault w choice ≡ first_of (handed_faults w choice)
   unfolding check_fault
@@ -54,27 +66,39 @@ module _ (w : Week) (choice : List ℕ) where
   unfolding rule_fault
   rule_broken n = refused_if_true 15 failed 0 (ap not (ne_eqb failed 0 n))
 
-  -- p is the rule's answer for a list and a choice that have passed
-  module _
-      {p : Stretched} (handed-passed : (first_of (handed_faults w choice)).number ≡ 0)
-      (is : p ≡ stretched (week_jobs w) w.closing (week_choice w choice))
-    where
-      failed_at : p.failing ≡ failed
-      unfolding stretched
-      failed_at = ap (λ (q : Stretched). q.failing) is
+  -- the rule's answer: the stretches of a choice that meets it, or the position where it fails
+  module _ {ss : List Stretch} (is : Ok ss ≡ stretched (week_jobs w) w.closing (week_choice w choice)) where
+    stretched_met : failed ≡ 0
+    stretched_met = by_failing failed refl
+      where
+        by_failing : (n : ℕ) → failed ≡ n → n ≡ 0
+        by_failing zero z = refl
+        by_failing (suc n) z = let fails = stretched_fails (week_jobs w) w.closing (week_choice w choice) n z in cc
 
-      pub stretched_refused : {r : Refusal} → r ≡ refused 15 p.failing 0 → (p.failing ≡ 0 → ⊥) → check_answer w choice ≡ refused_check r
-      stretched_refused e n =
-          check_answers.refused
-          (fault_rule handed-passed
-          ∙ rule_broken (λ z. n (failed_at ∙ z))
-          ∙ ap (λ (at : ℕ). refused 15 at 0) (sym failed_at)
-          ∙ sym e)
-          (λ z. omega (arith, number_of_lem e))
+    pub stretched_passed : (first_of (handed_faults w choice)).number ≡ 0 →
+        {sum : ℕ} → sum ≡ total (week_jobs w) (week_choice w choice) →
+        ◌≡◌ {A = CheckAnswer} (record { refusal = accepted; total = sum; stretches = ss }) (check_answer w choice)
+    unfolding passed
+    stretched_passed none added =
+        let all : ss ≡ stretches_of (week_jobs w) w.closing (week_choice w choice) =
+        let met = stretched_meets (week_jobs w) w.closing (week_choice w choice) stretched_met in cc
+        in
+        rw (added, all) (sym (check_answers.passed (number_of_lem (fault_rule none ∙ rule_met stretched_met))))
 
-      pub stretched_passed : p.failing ≡ 0 → {r : Refusal} → r ≡ accepted → {sum : ℕ} → sum ≡ total (week_jobs w) (week_choice w choice) →
-          check_answer w choice ≡ record { refusal = r; total = sum; stretches = p.stretches }
-      unfolding passed
-      stretched_passed z none added =
-          let met : failed ≡ 0 = sym failed_at ∙ z in
-          check_answers.passed (number_of_lem (fault_rule handed-passed ∙ rule_met met)) ∙ rw (none, added, is, stretched_meets _ _ _ met)
+  module _ {f : Failing} (is : Err f ≡ stretched (week_jobs w) w.closing (week_choice w choice)) where
+    stretched_at : (f.position ≡ failed) × (failed ≡ 0 → ⊥)
+    stretched_at = by_failing failed refl
+      where
+        by_failing : (n : ℕ) → failed ≡ n → (f.position ≡ failed) × (failed ≡ 0 → ⊥)
+        by_failing zero z = let met = stretched_meets (week_jobs w) w.closing (week_choice w choice) z in cc
+        by_failing (suc n) z =
+            let fails = stretched_fails (week_jobs w) w.closing (week_choice w choice) n z in
+            let here : f ≡ record { position = suc n } = cc in
+            (ap (λ (f : Failing). f.position) here ∙ sym z, λ none. omega arith)
+
+    pub stretched_refused : (first_of (handed_faults w choice)).number ≡ 0 →
+        refused_check (numbers (fault_at BreaksTheRule f.position 0)) ≡ check_answer w choice
+    stretched_refused none =
+        sym (check_answers.refused
+        (fault_rule none ∙ rule_broken stretched_at.1 ∙ ap (λ (at : ℕ). refused 15 at 0) (sym stretched_at.0))
+        (fault_refuses (fault_at BreaksTheRule f.position 0)))

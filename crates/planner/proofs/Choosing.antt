@@ -1,7 +1,7 @@
 -- Choose's answer: which refusal comes first, what is answered then, and what the table holds.
-use Prim.Native.Nat.{ℕ, ◌+◌, ◌*◌, ◌≤◌}
+use Prim.Native.Nat.{ℕ, ◌+◌, ◌*◌, ◌/◌, ◌<◌, ◌≤◌}
 use native.Mathlib.Decide.{ℕ_discrete}
-use native.Mathlib.Nat.{mul-le-mul}
+use native.Mathlib.Nat.{mul-le-mul, div-lt_iff_lt-mul}
 use native.Mathlib.Omega.{arith}
 use mathlib.Core.Path.{◌≡◌, refl, sym, ap, ◌∙◌}
 use mathlib.Core.Logic.Iff
@@ -9,6 +9,7 @@ use mathlib.Core.Logic.{◌↔◌, inl, inr, ⊎_elim}
 use mathlib.Core.List.{List, [], ◌∷◌}
 use mathlib.Core.Option.{Option, none, some}
 use lib.ListN.{length}
+use Rattle.std.specs.Prelude.{Result, Ok, Err}
 use Rattle.arrays.proofs.Cases.{option_cases}
 use Rattle.jobs.specs.Choice.{total}
 use Rattle.jobs.specs.Best.{Chosen}
@@ -16,18 +17,21 @@ use Rattle.jobs.proofs.ChoiceArrays.{chosen_placed}
 use Rattle.jobs.proofs.BestOfAll.{best_some}
 use Rattle.select.specs.Table.{filled}
 use Rattle.week.specs.declared.record.Week.{Week}
+use Rattle.week.specs.declared.refusal.Fault.{Fault}
 use Rattle.week.specs.declared.refusal.Refusal.{Refusal}
 use Rattle.week.specs.Record.{max_minutes}
+use Rattle.week.specs.Refusal.{accepted, refused}
+use Rattle.week.specs.Fault.{refusal_of}
 use Rattle.judge.specs.Fault.{list_fault, WellFormed}
 use Rattle.week.proofs.First.{Proper, number_of_lem, refuses_too, first_of_here, first_of_last, first_of_proper, append_first, append_last}
-use Rattle.week.proofs.Passes.{first_of_passes, short_proper, short_passes}
+use Rattle.week.proofs.Passes.{first_of_passes, short_proper, short_passes, short_refuses}
 use Rattle.week.proofs.Answering.{Answers, answers, answers_name, unless_passed, unless_refused_lem}
 use Rattle.judge.proofs.WellFormed.{list_proper}
 use Rattle.judge.proofs.Sound.{sound}
 use Rattle.planner.specs.declared.choose.Plan.{Plan}
 use Rattle.planner.specs.Job.{job_list_of, week_jobs, week_choice}
 use Rattle.planner.specs.Choose.{width_of, max_picks, table_fault, plan_fault, week_best, fill_faults, fill_fault, choose_fault}
-use Rattle.planner.specs.Choose.{refused_plan, plan_of, choose_answer, table_after, FillsTable, LongTable}
+use Rattle.planner.specs.Choose.{ChooseAnswer, refused_plan, plan_of, choose_answer, chosen_answer, table_after, FillsTable, LongTable}
 use Rattle.planner.proofs.Holding.{fill_other}
 
 -- 14, where there is no best choice
@@ -45,8 +49,14 @@ plan_none : (w : Week) → plan_of w none ≡ refused_plan (plan_fault none)
 unfolding plan_of
 plan_none w = refl
 
-plan_number : {a b : Plan} → a ≡ b → a.refusal.number ≡ b.refusal.number
-plan_number e = ap (λ (p : Plan). p.refusal.number) e
+-- the answer that the code's result is names what that refuses
+pub chosen_names : (r : Result Plan Fault) → (chosen_answer r).refusal ≡ refusal_of r
+unfolding refused_plan
+chosen_names (Ok plan) = refl
+chosen_names (Err fault) = refl
+
+plan_number : {a b : ChooseAnswer} → a ≡ b → a.refusal.number ≡ b.refusal.number
+plan_number e = ap (λ (p : ChooseAnswer). p.refusal.number) e
 
 module _ (w : Week) (size : ℕ) where
   pub table_proper : Proper (table_fault w size)
@@ -56,6 +66,19 @@ module _ (w : Week) (size : ℕ) where
   pub long_table : LongTable w size ↔ (w.count * width_of w ≤ size)
   unfolding table_fault
   long_table = short_passes 11 (w.count * width_of w) size refl
+
+  -- as a quotient tells, which is below n exactly where the size is below the product
+  by_quotient : (size / width_of w < w.count) ↔ (size < w.count * width_of w)
+  by_quotient = div-lt_iff_lt-mul (omega arith)
+
+  pub quotient_short : size / width_of w < w.count → table_fault w size ≡ refused 11 0 0
+  unfolding table_fault
+  quotient_short less = short_refuses 11 (by_quotient.0 less)
+
+  pub quotient_long : w.count ≤ size / width_of w → table_fault w size ≡ accepted
+  quotient_long enough =
+      let fits : size < w.count * width_of w → ⊥ = λ less. omega (arith, by_quotient.1 less) in
+      long_table.1 (omega (arith, fits))
 
   -- a table of 16 × 2,401 bytes is, for every list
   pub picks_enough : WellFormed w → max_picks ≤ size → LongTable w size
@@ -98,7 +121,7 @@ module _ (w : Week) (size : ℕ) where
   pub choose_refusal : (choose_answer w size).refusal ≡ choose_fault w size
   unfolding choose_fault refused_plan
   choose_refusal =
-      answers_name choose_answers (λ (a : Plan). a.refusal)
+      answers_name choose_answers (λ (a : ChooseAnswer). a.refusal)
       (λ z. plan_refusal w (week_best w) ∙ plan_proper (week_best w) ((first_of_passes _).0 z).1.1.0) (λ r. refl) (first_of_proper _)
 
   -- where nothing refuses the filling, it is that of the best choice

@@ -286,7 +286,7 @@ module _
     -- .. so that every batch that is read is finished by the end of its stretch.
     pub run_finishes : (i : ℕ) → 1 ≤ i → i ≤ w.count → 1 ≤ chosen_minutes w choice i →
         (f : ℕ)
-        × (outcome_numbers (at_position set_aside (run_answer w choice (length log)).batches i).outcome ≡ 1 ∷ f ∷ [])
+        × (outcome_numbers (at_position set_aside (run_answer w choice (length log)).batches i) ≡ 1 ∷ f ∷ [])
         × (f ≤ (stretch_at (job_list_of w) choice w.closing i).end)
     run_finishes =
         rw ((run_answers w choice (length log)).passed (nothing_refuses w choice log runs))
@@ -295,7 +295,7 @@ module _
     -- "No parish opens before its batch has been read.": it is finished by its due minute.
     pub run_by_due : (i : ℕ) → 1 ≤ i → i ≤ w.count → 1 ≤ chosen_minutes w choice i →
         (f : ℕ)
-        × (outcome_numbers (at_position set_aside (run_answer w choice (length log)).batches i).outcome ≡ 1 ∷ f ∷ [])
+        × (outcome_numbers (at_position set_aside (run_answer w choice (length log)).batches i) ≡ 1 ∷ f ∷ [])
         × (f ≤ (batch_of w i).due)
     run_by_due i low high some =
         let (f, is, in_time) = run_finishes i low high some in

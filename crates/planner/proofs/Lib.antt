@@ -1,4 +1,5 @@
 pub mod Demands
+pub mod Mapped
 pub mod Jobs
 pub mod LateBatch
 pub mod Checking

@@ -13,10 +13,10 @@ use Rattle.planner.specs.contracts.check.Checked as C
 use Rattle.planner.specs.contracts.run.WeekRun as R
 
 pub recipes_owned : (plan : Plan) (vs : List Val) → Is P.the_row plan vs → length plan.choice ≡ max_batches
-recipes_owned plan vs h = h.1.1.1.1.0.1.0.1
+recipes_owned plan vs h = h.1.1.1.0.1.0.1
 
 pub stretches_owned : (checked : Checked) (vs : List Val) → Is C.the_row checked vs → length checked.stretches ≡ max_batches
-stretches_owned checked vs h = h.1.1.1.1.0.1.0.1
+stretches_owned checked vs h = h.1.1.1.0.1.0.1
 
 pub outcomes_owned : (ran : WeekRun) (vs : List Val) → Is R.the_row ran vs → length ran.batches ≡ max_batches
-outcomes_owned ran vs h = h.1.1.1.1.1.0.1.0.1
+outcomes_owned ran vs h = h.1.1.1.1.0.1.0.1

@@ -2,10 +2,10 @@
 use Prim.Native.Nat.{ℕ, ◌*◌, ◌≤◌}
 use native.Mathlib.Omega.{arith}
 use mathlib.Core.Path.{◌≡◌, sym}
-use mathlib.Core.Bool.{true}
 use mathlib.Core.List.{List}
 use mathlib.Core.Option.{some}
 use lib.ListN.{length}
+use Rattle.std.specs.Prelude.{Some}
 use Rattle.arrays.specs.Made.{placed}
 use Rattle.jobs.specs.declared.model.JobList.{JobList}
 use Rattle.jobs.specs.Model.{jobs_of, chosen}
@@ -13,7 +13,6 @@ use Rattle.jobs.specs.Choice.{Valid, total}
 use Rattle.jobs.specs.Contract.{Names}
 use Rattle.jobs.proofs.ChoiceArrays.{chosen_placed}
 use Rattle.jobs.proofs.BestOfAll.{best_some}
-use Rattle.select.specs.declared.choice.BestChoice.{BestChoice}
 use Rattle.select.specs.Table.{filled}
 use Rattle.select.specs.Contract.{Readable, best_choice}
 use Rattle.select.proofs.Entries.{filled-take}
@@ -24,9 +23,8 @@ use Rattle.week.specs.declared.refusal.Refusal.{Refusal}
 use Rattle.week.specs.Record.{max_batches}
 use Rattle.week.specs.Refusal.{accepted}
 use Rattle.judge.proofs.Sound.{Sound}
-use Rattle.planner.specs.declared.choose.Plan.{Plan}
 use Rattle.planner.specs.Job.{job_list_of, week_jobs}
-use Rattle.planner.specs.Choose.{week_best, width_of, fill_fault, plan_of, choose_answer}
+use Rattle.planner.specs.Choose.{ChooseAnswer, week_best, width_of, fill_fault, plan_of, choose_answer}
 use Rattle.planner.proofs.Jobs.{plan_names, fillable}
 use Rattle.planner.proofs.Choosing.{plan_passed}
 
@@ -49,9 +47,9 @@ pub record ReadOff (w : Week) (choice : List ℕ) : Type 0 where
   pub first : week_best w ≡ some plan
   pub places : choice ≡ placed max_batches 0 plan
 
-pub read_some : (w : Week) {r : BestChoice} → r ≡ best_choice (week_best w) → r.exists ≡ true → ReadOff w r.choice
-read_some w is present =
-    let found = choice_some (week_best w) is present in
+pub read_some : (w : Week) {choice : List ℕ} → Some choice ≡ best_choice (week_best w) → ReadOff w choice
+read_some w is =
+    let found = choice_some (week_best w) is in
     record { plan = found.0; first = found.1; places = found.2 }
 
 module _ (w : Week) (sound : Sound w) {choice : List ℕ} (read : ReadOff w choice) where
@@ -64,7 +62,7 @@ module _ (w : Week) (sound : Sound w) {choice : List ℕ} (read : ReadOff w choi
   -- the sum is the one that `total` answers
   pub read_answer_lem : (size : ℕ) → (fill_fault w size).number ≡ 0 → {r : Refusal} → r ≡ accepted →
       {list : JobList} → list ≡ job_list_of w → {sum : ℕ} → sum ≡ total (jobs_of list) (chosen list choice) →
-      ◌≡◌ {A = Plan} (record { refusal = r; total = sum; choice = choice }) (choose_answer w size)
+      ◌≡◌ {A = ChooseAnswer} (record { refusal = r; total = sum; choice = choice }) (choose_answer w size)
   unfolding plan_of
   read_answer_lem size passed accepts is added =
       rw (accepts, added, is, read.places, chosen_placed (job_list_of w) read.plan valid)

@@ -1,5 +1,6 @@
 -- Choose: what it answers and what it leaves in the picks table, on every list and every table.
 use Rattle.std.specs.Prelude.{ℕ, ◌+◌, ◌*◌, ◌≤◌, ◌≡◌, ◌⊎◌, List, [], ◌∷◌, ◌++◌, length, get_or, replicate}
+use Rattle.std.specs.Prelude.{Result, Ok, Err}
 use Rattle.std.proofs.Math.Option.{Option, none, some}
 use Rattle.arrays.specs.Position.{backward}
 use Rattle.arrays.specs.Made.{placed}
@@ -9,13 +10,21 @@ use Rattle.jobs.specs.Choice.{total}
 use Rattle.jobs.specs.Best.{best, Chosen, SomeMeets, NoneMeets, PickSays}
 use Rattle.select.specs.Table.{filled, entry_at}
 use Rattle.week.specs.declared.record.Week.{Week}
+use Rattle.week.specs.declared.refusal.Fault.{Fault}
 use Rattle.week.specs.declared.refusal.Refusal.{Refusal}
 use Rattle.planner.specs.declared.choose.Plan.{Plan}
 use Rattle.week.specs.Record.{max_batches, max_minutes, span_of}
 use Rattle.week.specs.Refusal.{accepted, refused, first_of, short_fault, unless_refused, answer_by}
+use Rattle.week.specs.Fault.{numbers}
 use Rattle.judge.specs.Fault.{list_fault}
 use Rattle.planner.specs.Job.{job_list_of, week_jobs, week_choice, list_choice}
 use Rattle.planner.specs.Run.{log_after, LongLog, InTime}
+
+-- what Choose answers: a refusal's three numbers, the total, and for each batch, in list order, its recipe
+pub record ChooseAnswer : Type 0 where
+  pub refusal : Refusal
+  pub total : ℕ
+  pub choice : List ℕ
 
 -- the minutes from t to c, both included: a row of the picks table has an entry for each
 abbrev pub width_of : Week → ℕ
@@ -50,19 +59,24 @@ unfoldable pub choose_fault : Week → ℕ → Refusal
 choose_fault w size = first_of (fill_faults w size ++ (plan_fault (week_best w) ∷ []))
 
 -- "Anything else that its record holds is 0".
-unfoldable pub refused_plan : Refusal → Plan
+unfoldable pub refused_plan : Refusal → ChooseAnswer
 refused_plan r = record { refusal = r; total = 0; choice = replicate max_batches 0 }
 
+-- the answer that the code's result is
+abbrev pub chosen_answer : Result Plan Fault → ChooseAnswer
+chosen_answer (Ok plan) = record { refusal = accepted; total = plan.total; choice = plan.choice }
+chosen_answer (Err fault) = refused_plan (numbers fault)
+
 -- "Choose: list, table, answering the choice and its total.": of a best choice; where there is none, 14 refuses
-unfoldable pub plan_of : Week → Option (List ℕ) → Plan
+unfoldable pub plan_of : Week → Option (List ℕ) → ChooseAnswer
 plan_of w none = refused_plan (plan_fault none)
 plan_of w (some ks) = record { refusal = accepted; total = total (week_jobs w) ks; choice = placed max_batches 0 ks }
 
 -- a plan as the choice that it is
-abbrev pub plan_choice : Week → Plan → List ℕ
+abbrev pub plan_choice : Week → ChooseAnswer → List ℕ
 plan_choice w plan = list_choice w plan.choice
 
-unfoldable pub choose_answer : Week → ℕ → Plan
+unfoldable pub choose_answer : Week → ℕ → ChooseAnswer
 choose_answer w size = answer_by (choose_fault w size) refused_plan (plan_of w (week_best w))
 
 -- "Choosing fills a lent table of bytes." "The table is filled as well when refusal 14 is given." "Only 14 alters lent memory".
@@ -71,7 +85,7 @@ table_after w table =
     unless_refused (fill_fault w (length table)) (filled (week_jobs w) w.opening (width_of w) table) table
 
 -- an answer with which the table is filled: a plan, or 14
-abbrev pub FillsTable : Plan → Type 0
+abbrev pub FillsTable : ChooseAnswer → Type 0
 FillsTable plan = (plan.refusal.number ≡ 0) ⊎ (plan.refusal.number ≡ 14)
 
 -- the jobs of batches 1 to i, the last first
@@ -90,7 +104,7 @@ pub record PicksTable (w : Week) (before after : List ℕ) : Type 0 where
 -- demand 3: "the plan meets the rule, and the total answered is the sum of its recipes' worths. Every other choice of one recipe a batch
 -- that meets the rule has a smaller total, or the same total and a higher recipe number at the last batch where the two differ." "In the
 -- station's run of the chosen plan, the minutes that each batch gets before its stretch ends number exactly its recipe's minutes."
-pub record BestPlan (w : Week) (plan : Plan) : Type 0 where
+pub record BestPlan (w : Week) (plan : ChooseAnswer) : Type 0 where
   pub chosen : Chosen (week_jobs w) w.closing (week_choice w plan.choice)
   pub summed : plan.total ≡ total (week_jobs w) (week_choice w plan.choice)
   pub in_time : (log : List ℕ) → LongLog w (length log) → InTime w (plan_choice w plan) (log_after w (plan_choice w plan) log)

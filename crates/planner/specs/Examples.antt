@@ -5,6 +5,7 @@ use Rattle.arrays.specs.Example.{Example, ◌is◌, same, agree}
 use Rattle.jobs.specs.declared.rule.Stretch.{Stretch}
 use Rattle.jobs.specs.Rule.{stretch_of, fits, next_bound}
 use Rattle.jobs.specs.Best.{best}
+use Rattle.edf.specs.declared.outcome.Outcome.{Outcome}
 use Rattle.edf.specs.Run.{entries, minutes_left, first_pending, log_of, idle, changes_after, changes, up_to_last, outcome_of}
 use Rattle.edf.specs.Run.{outcome_numbers}
 use Rattle.edf.specs.Workload.{choice_log, workload_of, outcome_at}
@@ -18,13 +19,10 @@ use Rattle.week.specs.Written.{written}
 use Rattle.week.specs.Refusal.{refused_if, or_else, first_of, first, short_fault, unless_refused, answer_by, at_place}
 use Rattle.judge.specs.Fault.{week_fault, number_fault, order_fault, batch_fault, list_fault, name_fault, choice_fault}
 use Rattle.judge.specs.BatchFault.{cost_fault, worth_fault}
-use Rattle.planner.specs.declared.check.Checked.{Checked}
-use Rattle.planner.specs.declared.choose.Plan.{Plan}
-use Rattle.planner.specs.declared.run.BatchRun.{BatchRun}
-use Rattle.planner.specs.declared.run.WeekRun.{WeekRun}
-use Rattle.planner.specs.Check.{rule_fault, check_fault, passed, refused_check, check_answer}
-use Rattle.planner.specs.Choose.{width_of, table_fault, fill_fault, choose_fault, refused_plan, plan_of, choose_answer, table_after}
-use Rattle.planner.specs.Run.{log_fault, run_fault, week_log, log_answer, refused_run, run_answer, log_after}
+use Rattle.planner.specs.Check.{CheckAnswer, rule_fault, check_fault, passed, refused_check, check_answer}
+use Rattle.planner.specs.Choose.{ChooseAnswer, width_of, table_fault, fill_fault, choose_fault, refused_plan, plan_of, choose_answer}
+use Rattle.planner.specs.Choose.{table_after}
+use Rattle.planner.specs.Run.{RunAnswer, log_fault, run_fault, week_log, log_answer, refused_run, run_answer, log_after}
 
 -- The lists.
 abbrev pub recipe : ℕ → ℕ → Recipe
@@ -86,7 +84,7 @@ week_p rs = written 0 3 (batch 1 0 3 rs ∷ [])
 
 -- The answers as numbers.
 -- Choose's refusal, total and recipes, with a table that is just long enough
-abbrev plan_numbers : ℕ → Plan → List ℕ
+abbrev plan_numbers : ℕ → ChooseAnswer → List ℕ
 plan_numbers n p = p.refusal.number ∷ p.refusal.place ∷ p.refusal.recipe ∷ p.total ∷ take n p.choice
 
 abbrev choose : Week → List ℕ
@@ -97,19 +95,19 @@ stretch_numbers [] = []
 stretch_numbers (s ∷ ss) = s.start ∷ s.end ∷ stretch_numbers ss
 
 -- Check's refusal, total and stretches
-abbrev check_numbers : ℕ → Checked → List ℕ
+abbrev check_numbers : ℕ → CheckAnswer → List ℕ
 check_numbers n a =
     a.refusal.number ∷ a.refusal.place ∷ a.refusal.recipe ∷ a.total ∷ stretch_numbers (take n a.stretches)
 
 abbrev check : Week → List ℕ → List ℕ
 check w choice = check_numbers w.count (check_answer w choice)
 
-abbrev outcomes : List BatchRun → List ℕ
+abbrev outcomes : List Outcome → List ℕ
 outcomes [] = []
-outcomes (b ∷ bs) = outcome_numbers b.outcome ++ outcomes bs
+outcomes (o ∷ os) = outcome_numbers o ++ outcomes os
 
 -- Run's refusal, changes, idle minutes and each batch's outcome: 0 0 set aside, 1 and the minute finished, 2 and the minutes left
-abbrev run_numbers : ℕ → WeekRun → List ℕ
+abbrev run_numbers : ℕ → RunAnswer → List ℕ
 run_numbers n a =
     a.refusal.number ∷ a.refusal.place ∷ a.refusal.recipe ∷ a.changes ∷ a.idle ∷ outcomes (take n a.batches)
 

@@ -1,21 +1,31 @@
 -- Run: what it answers and what it leaves in the log, on every list, choice and log.
 use Rattle.std.specs.Prelude.{ℕ, suc, ◌+◌, ◌-◌, ◌≤◌, ◌<◌, ◌≡◌, cond, List, [], ◌∷◌, ◌++◌, length, get_or, take, drop, replicate, leb, eqb}
+use Rattle.std.specs.Prelude.{Result, Ok, Err}
 use Rattle.arrays.specs.Position.{at_position}
 use Rattle.arrays.specs.Made.{tabulate, padded}
 use Rattle.jobs.specs.Stretches.{stretch_at}
+use Rattle.edf.specs.declared.outcome.Outcome.{Outcome}
 use Rattle.edf.specs.declared.outcome.Outcome.TheVariants.{SetAside}
 use Rattle.edf.specs.declared.workload.Workload.{Workload}
 use Rattle.edf.specs.Run.{Reads, entries, minutes_left, minutes_before, idle, changes, up_to_last, outcome_numbers}
 use Rattle.edf.specs.Workload.{choice_log, workload_of, outcome_at}
 use Rattle.week.specs.declared.record.Week.{Week}
+use Rattle.week.specs.declared.refusal.Fault.{Fault}
 use Rattle.week.specs.declared.refusal.Refusal.{Refusal}
-use Rattle.planner.specs.declared.run.BatchRun.{BatchRun}
 use Rattle.planner.specs.declared.run.WeekRun.{WeekRun}
 use Rattle.week.specs.Record.{max_batches, batch_of, span_of, ready_of}
 use Rattle.week.specs.Refusal.{accepted, first_of, short_fault, unless_refused, answer_by}
+use Rattle.week.specs.Fault.{numbers}
 use Rattle.judge.specs.Fault.{handed_faults}
 use Rattle.planner.specs.Job.{job_list_of}
 use Rattle.planner.specs.Written.{chosen_minutes}
+
+-- what Run answers: a refusal's three numbers, the idle minutes, the changes, and for each batch, in list order, its outcome
+pub record RunAnswer : Type 0 where
+  pub refusal : Refusal
+  pub idle : ℕ
+  pub changes : ℕ
+  pub batches : List Outcome
 
 -- "12: log shorter than c − t."
 unfoldable pub log_fault : Week → ℕ → Refusal
@@ -31,25 +41,30 @@ unfoldable pub week_log : Week → List ℕ → List ℕ
 week_log w choice = choice_log (job_list_of w) choice w.opening (span_of w)
 
 -- a place of the answer for a batch that is set aside, and beyond n
-abbrev pub set_aside : BatchRun
-set_aside = record { outcome = SetAside }
+abbrev pub set_aside : Outcome
+set_aside = SetAside
 
 -- "For each batch the run answers one of: set aside; finished, with the minute after its last; unfinished, with the minutes
 -- left. It answers the idle minutes. It answers the number of changes": of a workload, after a log that starts at minute t
-unfoldable pub log_answer : Workload → ℕ → List ℕ → WeekRun
+unfoldable pub log_answer : Workload → ℕ → List ℕ → RunAnswer
 log_answer work t log =
     record {
       refusal = accepted;
       idle = idle log;
       changes = changes log;
-      batches = padded max_batches set_aside (tabulate (λ i. record { outcome = outcome_at work t log (suc i) }) 0 work.count);
+      batches = padded max_batches set_aside (tabulate (λ i. outcome_at work t log (suc i)) 0 work.count);
     }
 
 -- "Anything else that its record holds is 0 (in the run, set aside)."
-unfoldable pub refused_run : Refusal → WeekRun
+unfoldable pub refused_run : Refusal → RunAnswer
 refused_run r = record { refusal = r; idle = 0; changes = 0; batches = replicate max_batches set_aside }
 
-unfoldable pub run_answer : Week → List ℕ → ℕ → WeekRun
+-- the answer that the code's result is
+abbrev pub ran_answer : Result WeekRun Fault → RunAnswer
+ran_answer (Ok ran) = record { refusal = accepted; idle = ran.idle; changes = ran.changes; batches = ran.batches }
+ran_answer (Err fault) = refused_run (numbers fault)
+
+unfoldable pub run_answer : Week → List ℕ → ℕ → RunAnswer
 run_answer w choice size =
     answer_by (run_fault w choice size) refused_run
     (log_answer (workload_of (job_list_of w) choice) w.opening (week_log w choice))
@@ -85,11 +100,11 @@ outcome_said w choice log i =
     (cond (leb cost (entries i log)) (1 ∷ (w.opening + up_to_last i log) ∷ []) (2 ∷ (cost - entries i log) ∷ []))
 
 -- 01: "For each batch the run answers one of: ..", of the log that is left: each part of the answer
-pub record LogSays (w : Week) (choice log : List ℕ) (answer : WeekRun) : Type 0 where
+pub record LogSays (w : Week) (choice log : List ℕ) (answer : RunAnswer) : Type 0 where
   pub idle : answer.idle ≡ entries 0 (take (span_of w) log)
   pub changes : answer.changes ≡ changes (take (span_of w) log)
   pub outcome : (i : ℕ) → 1 ≤ i → i ≤ w.count →
-      outcome_numbers (at_position set_aside answer.batches i).outcome ≡ outcome_said w choice (take (span_of w) log) i
+      outcome_numbers (at_position set_aside answer.batches i) ≡ outcome_said w choice (take (span_of w) log) i
   pub beyond : (i : ℕ) → w.count < i → at_position set_aside answer.batches i ≡ set_aside
 
 -- demand 3: "the minutes that each batch gets before its stretch ends number exactly its recipe's minutes". No stretch ends after the

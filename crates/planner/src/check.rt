@@ -1,52 +1,38 @@
 // Check: whether a choice meets the backward rule.
 ghost use Rattle.std.specs.Prelude.{◌≡◌};
-ghost use Rattle.planner.specs.Check.{check_answer, refused_check};
+ghost use Rattle.week.specs.Fault.{fault_at};
+ghost use Rattle.planner.specs.Check.{check_answer, checked_answer};
 
 use crate::job::jobs_of;
-use jobs::rule::{Stretch, stretch_all};
+use jobs::rule::{Failing, Stretch, stretch_all};
 use jobs::worth::total;
-use judge::fault::handed_fault;
+use judge::fault::accept_handed;
 use week::record::Week;
-use week::refusal::Refusal;
+use week::refusal::{Fault, Reason};
 
-// Check's answer: for each batch, in list order, the stretch that the rule gives it, and the total; or the refusal.
+// Of a choice that Check passes: for each batch, in list order, the stretch that the rule gives it, and the total.
 #[derive(Clone, Copy)]
 pub struct Checked {
-    pub refusal: Refusal,
     pub total: u32,
     pub stretches: [Stretch; Week::MAX_BATCHES],
 }
 
-impl Checked {
-    fn refused(refusal: Refusal) -> Checked
-        ensures { result ≡ refused_check refusal }
-    {
-        let nothing = Stretch { start: 0, end: 0 };
-        Checked {
-            refusal,
-            total: 0,
-            stretches: [nothing; Week::MAX_BATCHES],
-        }
-    }
+// 15, at the position where a choice breaks the rule.
+fn broken_at(failing: Failing) -> Fault
+    ensures { result ≡ fault_at Reason.BreaksTheRule failing.position 0 }
+{
+    Fault::of(Reason::BreaksTheRule).in_place(failing.position)
 }
 
 // Document 01: "Check: list and choice, answering the stretches and the total." The answer on every input.
-pub fn check(week: Week, choice: &[u8]) -> Checked
-    ensures { result ≡ check_answer week choice.now }
+pub fn check(week: Week, choice: &[u8]) -> Result<Checked, Fault>
+    ensures { checked_answer result ≡ check_answer week choice.now }
 {
-    let fault = handed_fault(week, choice);
-    if fault.number != 0 {
-        return Checked::refused(fault);
-    }
+    accept_handed(week, choice)?;
     let jobs = jobs_of(week);
-    let stretched = stretch_all(jobs, week.closing, choice);
-    if stretched.failing != 0 {
-        return Checked::refused(Refusal::at(15, stretched.failing, 0));
-    }
-    let stretches = stretched.stretches;
-    Checked {
-        refusal: Refusal::none(),
+    let stretches = stretch_all(jobs, week.closing, choice).map_err(broken_at)?;
+    Ok(Checked {
         total: total(jobs, choice),
         stretches,
-    }
+    })
 }

@@ -15,9 +15,8 @@ use Rattle.week.specs.RefusalOrder.{stage, FirstToHold, least_place, greatest_pl
 use Rattle.week.proofs.First.{number_of_lem, refuses_too, append_first, append_last}
 use Rattle.week.proofs.Holding.{one_holds, append_holds, when_place, stage_ahead}
 use Rattle.week.proofs.Naming.{when_naming, naming_after, at_fault}
-use Rattle.planner.specs.declared.choose.Plan.{Plan}
 use Rattle.planner.specs.Check.{check_answer}
-use Rattle.planner.specs.Choose.{max_picks, plan_fault, week_best, plan_choice, choose_answer, BestPlan, SomePlan}
+use Rattle.planner.specs.Choose.{ChooseAnswer, max_picks, plan_fault, week_best, plan_choice, choose_answer, BestPlan, SomePlan}
 use Rattle.planner.specs.Run.{week_log, run_answer}
 use Rattle.planner.proofs.Choosing.{picks_enough, fill_faultless, plan_fault_lem, plan_proper}
 use Rattle.planner.proofs.Holding.{plan_holds}
@@ -46,7 +45,7 @@ module _ (sheet : List ℕ) where
   abbrev w : Week
   w = sheet_week sheet
 
-  abbrev plan : Plan
+  abbrev plan : ChooseAnswer
   plan = choose_answer w max_picks
 
   -- the sheet is refused, ..

@@ -13,8 +13,7 @@ use Rattle.arrays.proofs.Tabulates.{tabulate_all}
 use Rattle.week.specs.declared.record.Week.{Week}
 use Rattle.week.specs.declared.refusal.Refusal.{Refusal}
 use Rattle.week.specs.Refusal.{unless_refused, answer_by}
-use Rattle.planner.specs.declared.choose.Plan.{Plan}
-use Rattle.planner.specs.Choose.{max_picks, choose_answer}
+use Rattle.planner.specs.Choose.{ChooseAnswer, max_picks, choose_answer}
 use Rattle.sheet.specs.Read.{read_answer}
 use Rattle.sheet.proofs.OneLine.{unbroken, OneLine, unbroken-append}
 use Rattle.text.specs.Decimal.{digit, spelt, decimal}
@@ -86,7 +85,7 @@ either : (fault : Refusal) (lines : List (List ℕ)) → All OneLine lines → A
 unfolding answer_by unless_refused
 either fault lines ones = cond_both (All OneLine) (eqb fault.number 0) ones (refusal_one fault, tt)
 
-plan_ones : (w : Week) (plan : Plan) → All OneLine (plan_lines w plan)
+plan_ones : (w : Week) (plan : ChooseAnswer) → All OneLine (plan_lines w plan)
 unfolding plan_lines batch_lines
 plan_ones w plan = (week_one w.opening w.closing, (total_one _ _ _, tabulate_all OneLine _ (λ i. batch_one _) 0 w.count))
 

@@ -18,13 +18,11 @@ use Rattle.week.specs.declared.record.Week.{Week}
 use Rattle.week.specs.Record.{max_minutes}
 use Rattle.judge.specs.Fault.{WellFormed}
 use Rattle.judge.proofs.Sound.{sound, Named, choice_passes}
-use Rattle.planner.specs.declared.choose.Plan.{Plan}
-use Rattle.planner.specs.declared.run.WeekRun.{WeekRun}
 use Rattle.planner.specs.Job.{job_list_of, week_jobs, week_choice}
-use Rattle.planner.specs.Check.{passed, check_answer}
-use Rattle.planner.specs.Choose.{plan_choice}
+use Rattle.planner.specs.Check.{CheckAnswer, passed, check_answer}
+use Rattle.planner.specs.Choose.{ChooseAnswer, plan_choice}
 use Rattle.planner.specs.Written.{chosen_minutes}
-use Rattle.planner.specs.Run.{week_log, set_aside, log_answer, run_answer, outcome_said}
+use Rattle.planner.specs.Run.{RunAnswer, week_log, set_aside, log_answer, run_answer, outcome_said}
 use Rattle.planner.proofs.Running.{log_enough, run_faultless, run_answers}
 use Rattle.planner.proofs.Station.{take_week}
 use Rattle.planner.proofs.Outcomes.{log_says, finished}
@@ -41,13 +39,13 @@ finish_said (Unfinished left) k f low e = let two : k ≡ 2 = cc in absurd (omeg
 
 -- of a choice that meets the rule
 module _
-    (w : Week) (plan : Plan) (list : WellFormed w) (names : Named w (plan_choice w plan))
+    (w : Week) (plan : ChooseAnswer) (list : WellFormed w) (names : Named w (plan_choice w plan))
     (meeting : meets (week_jobs w) w.closing (week_choice w (plan_choice w plan)) ≡ true)
   where
     abbrev choice : List ℕ
     choice = plan_choice w plan
 
-    abbrev ran : WeekRun
+    abbrev ran : RunAnswer
     ran = run_answer w choice max_minutes
 
     checked : check_answer w choice ≡ passed w choice
@@ -61,6 +59,15 @@ module _
     pub counts_said : (ran.changes ≡ changes (week_log w choice)) × (ran.idle ≡ idle (week_log w choice))
     unfolding log_answer
     counts_said = rw ran_log (refl, refl)
+
+    -- neither Check nor Run refuses it
+    pub check_accepts : (check_answer w choice).refusal.number ≡ 0
+    unfolding passed
+    check_accepts = ap (λ (a : CheckAnswer). a.refusal.number) checked
+
+    pub run_accepts : ran.refusal.number ≡ 0
+    unfolding log_answer
+    run_accepts = ap (λ (a : RunAnswer). a.refusal.number) ran_log
 
     -- the position in the array that Choose answers is that in the choice
     recipe_at_lem : (i : ℕ) → 1 ≤ i → i ≤ w.count → at_position 0 plan.choice i ≡ at_position 0 choice i
@@ -78,7 +85,7 @@ module _
 
     -- what Run says of position i
     said : (i : ℕ) → 1 ≤ i → i ≤ w.count →
-        outcome_numbers (at_position set_aside ran.batches i).outcome ≡ outcome_said w choice (week_log w choice) i
+        outcome_numbers (at_position set_aside ran.batches i) ≡ outcome_said w choice (week_log w choice) i
     said i low high =
         rw ran_log
         ((log_says w (sound w list) choice names []).outcome i low high
@@ -89,7 +96,7 @@ module _
 
     by_stretch : (i : ℕ) → 1 ≤ i → i ≤ w.count → 1 ≤ chosen_minutes w choice i →
         (f : ℕ)
-        × (outcome_numbers (at_position set_aside ran.batches i).outcome ≡ 1 ∷ f ∷ [])
+        × (outcome_numbers (at_position set_aside ran.batches i) ≡ 1 ∷ f ∷ [])
         × (f ≤ (stretch_at (job_list_of w) choice w.closing i).end)
     by_stretch = rw ran_log (finished w (sound w list) choice names meeting)
 
@@ -98,7 +105,7 @@ module _
     line_says i low high =
         let line = batch_answer w plan (check_answer w choice) ran i in
         let cost : line.cost ≡ chosen_minutes w choice i = omega (arith, minutes_long i low high) in
-        let outcome = (at_position set_aside ran.batches i).outcome in
+        let outcome = (at_position set_aside ran.batches i) in
         record {
           number = refl;
           recipe = recipe_at_lem i low high;

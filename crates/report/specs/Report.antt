@@ -1,31 +1,29 @@
 -- The report of a sheet, line by line: document 01, "The sheet".
-use Rattle.std.specs.Prelude.{ℕ, suc, ◌-◌, ◌≤◌, ◌≡◌, length}
+use Rattle.std.specs.Prelude.{ℕ, suc, ◌-◌, ◌≤◌, ◌≡◌}
 use mathlib.Core.List.{List, [], ◌∷◌, ◌++◌, flatten}
 use Rattle.arrays.specs.Position.{at_position}
-use Rattle.arrays.specs.Made.{tabulate, padded}
+use Rattle.arrays.specs.Made.{tabulate}
+use Rattle.jobs.specs.declared.rule.Stretch.{Stretch}
 use Rattle.jobs.specs.Stretches.{no_stretch, stretch_at}
 use Rattle.edf.specs.declared.outcome.Outcome.{Outcome}
 use Rattle.edf.specs.declared.outcome.Outcome.TheVariants.{SetAside, Finished, Unfinished}
+use Rattle.week.specs.declared.record.Batch.{Batch}
 use Rattle.week.specs.declared.record.Week.{Week}
 use Rattle.week.specs.declared.refusal.Refusal.{Refusal}
 use Rattle.week.specs.Record.{max_minutes, batch_of}
 use Rattle.week.specs.Refusal.{refused, first_of, answer_by}
 use Rattle.week.specs.RefusalOrder.{◌when◌, ◌or◌}
-use Rattle.planner.specs.declared.check.Checked.{Checked}
-use Rattle.planner.specs.declared.choose.Plan.{Plan}
-use Rattle.planner.specs.declared.run.WeekRun.{WeekRun}
 use Rattle.planner.specs.Job.{job_list_of}
-use Rattle.planner.specs.Check.{check_answer}
-use Rattle.planner.specs.Choose.{max_picks, plan_fault, week_best, plan_choice, choose_answer, NoPlan}
+use Rattle.planner.specs.Check.{CheckAnswer, check_answer}
+use Rattle.planner.specs.Choose.{ChooseAnswer, max_picks, plan_fault, week_best, plan_choice, choose_answer, NoPlan}
 use Rattle.planner.specs.Written.{chosen_minutes}
-use Rattle.planner.specs.Run.{set_aside, week_log, run_answer, outcome_said}
+use Rattle.planner.specs.Run.{RunAnswer, set_aside, week_log, run_answer, outcome_said}
 use Rattle.sheet.specs.List.{sheet_week}
 use Rattle.sheet.specs.Read.{read_faults, read_answer}
 use Rattle.sheet.specs.Holds.{ReadHolds, read_numbers}
 use Rattle.text.specs.Line.{week_line, refusal_line}
-use Rattle.report.specs.declared.ReportText.{ReportText}
 use Rattle.report.specs.declared.line.BatchLine.{BatchLine}
-use Rattle.report.specs.Line.{total_line, batch_line, max_text}
+use Rattle.report.specs.Line.{total_line, batch_line}
 
 -- "finish (0 if set aside)". No batch of a plan is unfinished: `report_says`.
 abbrev pub finish_of : Outcome → ℕ
@@ -33,30 +31,37 @@ finish_of SetAside = 0
 finish_of (Finished minute) = minute
 finish_of (Unfinished left) = 0
 
--- what the line of position i says, by a plan, the stretches that Check answers of it and the outcomes that Run does. "cost as it
--- counts in the rule": a stretch "starts its recipe's cost earlier" than it ends.
-unfoldable pub batch_answer : Week → Plan → Checked → WeekRun → ℕ → BatchLine
-batch_answer w plan checked ran i =
-    let stretch = at_position no_stretch checked.stretches i in
+-- what the line of a batch says, by its recipe, its stretch and its outcome. "cost as it counts in the rule": a stretch "starts its
+-- recipe's cost earlier" than it ends.
+abbrev pub line_by : Batch → ℕ → Stretch → Outcome → BatchLine
+line_by b recipe stretch outcome =
     record {
-      number = (batch_of w i).number;
-      recipe = at_position 0 plan.choice i;
+      number = b.number;
+      recipe = recipe;
       cost = stretch.end - stretch.start;
       start = stretch.start;
       end = stretch.end;
-      finish = finish_of (at_position set_aside ran.batches i).outcome;
+      finish = finish_of outcome;
     }
 
+-- the line of position i, by a plan, the stretches that Check answers of it and the outcomes that Run does
+unfoldable pub batch_answer : Week → ChooseAnswer → CheckAnswer → RunAnswer → ℕ → BatchLine
+batch_answer w plan checked ran i =
+    line_by (batch_of w i) (at_position 0 plan.choice i) (at_position no_stretch checked.stretches i)
+    (at_position set_aside ran.batches i)
+
 -- the lines of the batches, in list order
-unfoldable pub batch_lines : Week → Plan → Checked → WeekRun → ℕ → List (List ℕ)
+unfoldable pub batch_lines : Week → ChooseAnswer → CheckAnswer → RunAnswer → ℕ → List (List ℕ)
 batch_lines w plan checked ran n = tabulate (λ i. batch_line (batch_answer w plan checked ran (suc i))) 0 n
 
--- of a plan
-unfoldable pub plan_lines : Week → Plan → List (List ℕ)
-plan_lines w plan =
-    let checked = check_answer w (plan_choice w plan) in
-    let ran = run_answer w (plan_choice w plan) max_minutes in
+-- of a plan: the week, the total and the batches, by these answers ..
+abbrev pub lines_by : Week → ChooseAnswer → CheckAnswer → RunAnswer → List (List ℕ)
+lines_by w plan checked ran =
     week_line w.opening w.closing ∷ total_line plan.total ran.changes ran.idle ∷ batch_lines w plan checked ran w.count
+
+-- .. as Check and Run give them
+unfoldable pub plan_lines : Week → ChooseAnswer → List (List ℕ)
+plan_lines w plan = lines_by w plan (check_answer w (plan_choice w plan)) (run_answer w (plan_choice w plan) max_minutes)
 
 -- of a refusal: one line only
 abbrev pub refusal_lines : Refusal → List (List ℕ)
@@ -77,10 +82,6 @@ report_lines sheet =
 -- "It writes the whole of": the lines, one after the other
 abbrev pub report_of : List ℕ → List ℕ
 report_of sheet = flatten (report_lines sheet)
-
--- by value: the text, with 0 beyond it ("Places of an answer beyond n hold 0"), and its length
-abbrev pub report_answer : List ℕ → ReportText
-report_answer sheet = record { bytes = padded max_text 0 (report_of sheet); len = length (report_of sheet) }
 
 -- what the line of position i says: the desk's own number and minutes, the stretch that the rule gives it, and the finish that Run
 -- answers, which is in time. A batch that is set aside has 0 there.

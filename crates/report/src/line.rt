@@ -1,10 +1,9 @@
 // The lines of a report.
-ghost use Rattle.std.specs.Prelude.{◌+◌, ◌≤◌, length};
-ghost use Rattle.text.specs.Contract.{Puts};
-ghost use Rattle.report.specs.Line.{total_line, batch_line, total_width, batch_width};
+ghost use Rattle.std.specs.Prelude.{◌≡◌, ◌+◌, ◌≤◌, ◌++◌, length};
+ghost use Rattle.report.specs.Line.{total_line, batch_line, total_width, batch_width, max_text};
 
-use text::line::{WEEK_WIDTH, rest};
-use text::put::{put, put_decimal, put_named};
+use text::Text;
+use text::line::WEEK_WIDTH;
 use week::record::Week;
 
 // The widest line of each kind, its line feed counted: `total 4294967295 changes 65535 idle 65535`, and six numbers of five digits.
@@ -13,7 +12,7 @@ const TOTAL_WIDTH: usize = 42;
 const BATCH_WIDTH: usize = 36;
 
 // The longest text.
-pub(crate) const MAX_TEXT: usize = WEEK_WIDTH + TOTAL_WIDTH + Week::MAX_BATCHES * BATCH_WIDTH;
+pub const MAX_TEXT: usize = WEEK_WIDTH + TOTAL_WIDTH + Week::MAX_BATCHES * BATCH_WIDTH;
 
 // What the line of a batch says. Document 01: "A batch line is number, recipe, cost as it counts in the rule, start and end of
 // stretch, finish (0 if set aside)."
@@ -28,30 +27,24 @@ pub(crate) struct BatchLine {
 }
 
 // The second line, as "total 22 changes 4 idle 10".
-pub(crate) fn total_line(text: &mut [u8], at: usize, total: u32, changes: u16, idle: u16) -> usize
-    requires { at + total_width ≤ length text.old }
-    ensures line { Puts text.old at (total_line total changes idle) text.new result }
-    ensures width { result ≤ at + total_width }
+pub(crate) fn total_line(text: &mut Text<MAX_TEXT>, total: u32, changes: u16, idle: u16)
+    requires { length text.old + total_width ≤ max_text }
+    ensures line { text.new ≡ text.old ++ total_line total changes idle }
+    ensures width { length text.new ≤ length text.old + total_width }
 {
-    let mut end = put_named(&mut *text, at, b"total", total as u64);
-    end = put_named(&mut *text, end, b" changes", changes as u64);
-    end = put_named(&mut *text, end, b" idle", idle as u64);
-    put(text, end, b"\n")
+    text.put_named(b"total", total);
+    text.put_named(b" changes", changes);
+    text.put_named(b" idle", idle);
+    text.put(b"\n");
 }
 
 // A batch's line, as "7 2 10 10 20 10".
-pub(crate) fn batch_line(text: &mut [u8], at: usize, line: BatchLine) -> usize
-    requires { at + batch_width ≤ length text.old }
-    ensures line { Puts text.old at (batch_line line) text.new result }
-    ensures width { result ≤ at + batch_width }
+pub(crate) fn batch_line(text: &mut Text<MAX_TEXT>, line: BatchLine)
+    requires { length text.old + batch_width ≤ max_text }
+    ensures line { text.new ≡ text.old ++ batch_line line }
+    ensures width { length text.new ≤ length text.old + batch_width }
 {
-    let numbers = [
-        line.recipe as u64,
-        line.cost as u64,
-        line.start as u64,
-        line.end as u64,
-        line.finish as u64,
-    ];
-    let end = put_decimal(&mut *text, at, line.number as u64);
-    rest(text, end, &numbers)
+    let recipe = u16::from(line.recipe);
+    text.put_decimal(line.number);
+    text.rest(&[recipe, line.cost, line.start, line.end, line.finish]);
 }

@@ -1,21 +1,22 @@
 // The report of a list: its best plan, the stretches that the rule gives it, and the station's run of it.
-ghost use Rattle.std.specs.Prelude.{◌≡◌, suc, ◌+◌, ◌*◌, ◌≤◌, ◌<◌, length};
+ghost use Rattle.std.specs.Prelude.{◌≡◌, ◌≤◌, Ok};
 ghost use mathlib.Core.List.{flatten};
-ghost use Rattle.planner.specs.Check.{check_answer};
-ghost use Rattle.planner.specs.Choose.{plan_choice};
-ghost use Rattle.text.specs.Contract.{Puts};
-ghost use Rattle.report.specs.Line.{batch_width, max_text};
-ghost use Rattle.report.specs.Report.{finish_of, batch_answer, batch_lines, plan_lines, week_lines};
-ghost use Rattle.report.specs.Contract.{Printable};
+ghost use Rattle.planner.specs.Check.{checked_answer};
+ghost use Rattle.planner.specs.Choose.{chosen_answer};
+ghost use Rattle.planner.specs.Run.{ran_answer};
+ghost use Rattle.report.specs.Report.{finish_of, line_by, lines_by, week_lines};
+ghost use Rattle.report.specs.Contract.{Printable, text_of};
 
-use crate::line::{BatchLine, batch_line, total_line};
+use crate::line::{BatchLine, MAX_TEXT, batch_line, total_line};
 use edf::outcome::Outcome;
+use jobs::rule::Stretch;
 use planner::check::{Checked, check};
 use planner::choose::Plan;
 use planner::own_memory::{choose_week, run_week};
 use planner::run::WeekRun;
-use text::line::{refusal_line, week_line};
-use week::record::Week;
+use text::Text;
+use week::record::{Batch, Week};
+use week::refusal::Fault;
 
 // Document 01: "finish (0 if set aside)". No batch of a plan is unfinished.
 fn finish_of(outcome: Outcome) -> u16
@@ -28,71 +29,44 @@ fn finish_of(outcome: Outcome) -> u16
     }
 }
 
-// What the line of the batch of index i says.
-fn batch_answer(week: Week, plan: Plan, checked: Checked, ran: WeekRun, i: usize) -> BatchLine
-    requires { (i < week.count) × Printable week checked }
-    ensures { result ≡ batch_answer week plan checked ran (suc i) }
+// What the line of a batch says.
+fn line_of(batch: Batch, recipe: u8, stretch: Stretch, outcome: Outcome) -> BatchLine
+    requires { stretch.start ≤ stretch.end }
+    ensures { result ≡ line_by batch recipe stretch outcome }
 {
-    let batch = week.batches[i];
-    let recipe = plan.choice[i];
-    let stretch = checked.stretches[i];
-    let cost = stretch.end - stretch.start;
-    let run = ran.batches[i];
-    let outcome = run.outcome;
     BatchLine {
         number: batch.number,
         recipe,
-        cost,
+        cost: stretch.end - stretch.start,
         start: stretch.start,
         end: stretch.end,
         finish: finish_of(outcome),
     }
 }
 
-// A line for each batch, in list order.
-fn batch_lines(
-    text: &mut [u8],
-    at: usize,
-    week: Week,
-    plan: Plan,
-    checked: Checked,
-    ran: WeekRun,
-) -> usize
-    requires { (at + week.count * batch_width ≤ length text.old) × Printable week checked }
-    ensures { Puts text.old at (flatten (batch_lines week plan checked ran week.count)) text.new result }
+// All lines of a plan: the week, the total, and a line for each batch, in list order.
+fn plan_text(week: Week, plan: Plan, checked: Checked, ran: WeekRun) -> Text<MAX_TEXT>
+    requires { Printable week (checked_answer (Ok checked)) }
+    ensures { result ≡ flatten (lines_by week (chosen_answer (Ok plan)) (checked_answer (Ok checked)) (ran_answer (Ok ran))) }
 {
-    let n = week.count;
-    let mut end = at;
-    for i in 0..n {
-        let line = batch_answer(week, plan, checked, ran, i);
-        end = batch_line(&mut *text, end, line);
+    let mut text = Text::new();
+    text.week_line(week.opening, week.closing);
+    total_line(&mut text, plan.total, ran.changes, ran.idle);
+    // By index in three of the four arrays: a zip of all four nests three deep, and is no plainer.
+    for (i, batch) in week.batches[..week.count].iter().enumerate() {
+        let line = line_of(*batch, plan.choice[i], checked.stretches[i], ran.batches[i]);
+        batch_line(&mut text, line);
     }
-    end
+    text
 }
 
-// All lines of a plan.
-fn plan_text(text: &mut [u8], week: Week, plan: Plan) -> usize
-    requires { (max_text ≤ length text.old) × Printable week (check_answer week (plan_choice week plan)) }
-    ensures { Puts text.old 0 (flatten (plan_lines week plan)) text.new result }
+// All lines of a list's plan, or what refuses it.
+pub(crate) fn week_text(week: Week) -> Result<Text<MAX_TEXT>, Fault>
+    ensures { text_of result ≡ flatten (week_lines week) }
 {
-    let choice = plan.choice;
-    let n = week.count;
-    let checked = check(week, &choice[0..n]);
-    let ran = run_week(week, &choice[0..n]);
-    let mut end = week_line(&mut *text, 0, week.opening, week.closing);
-    end = total_line(&mut *text, end, plan.total, ran.changes, ran.idle);
-    batch_lines(text, end, week, plan, checked, ran)
-}
-
-// All lines of a list: those of its plan, or the refusal.
-pub(crate) fn week_text(text: &mut [u8], week: Week) -> usize
-    requires { max_text ≤ length text.old }
-    ensures { Puts text.old 0 (flatten (week_lines week)) text.new result }
-{
-    let plan = choose_week(week);
-    let fault = plan.refusal;
-    if fault.number != 0 {
-        return refusal_line(text, 0, fault);
-    }
-    plan_text(text, week, plan)
+    let plan = choose_week(week)?;
+    let choice = &plan.choice[..week.count];
+    let checked = check(week, choice)?;
+    let ran = run_week(week, choice)?;
+    Ok(plan_text(week, plan, checked, ran))
 }

@@ -1,4 +1,5 @@
 pub mod Words
+pub mod Slices
 pub mod OfferAnswers
 pub mod Offers
 pub mod Cells

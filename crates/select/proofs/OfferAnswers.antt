@@ -5,13 +5,14 @@ use mathlib.Core.Path.{◌≡◌, refl}
 use mathlib.Core.Logic.{◌⊎◌, inl, inr, ⊎_elim}
 use mathlib.Core.Bool.{Bool, true, false, cond, ◌&&◌, true≢false}
 use mathlib.Core.List.{List}
-use lib.ListN.{length}
+use lib.ListN.{length, get_or, take, drop}
 use borrow.Author.Tests.{le-leb, lt-leb, lt-ltb, le-ltb}
 use Rattle.jobs.specs.declared.model.Version.{Version}
 use Rattle.jobs.specs.declared.model.Job.{Job}
 use Rattle.jobs.specs.Model.{minutes_of}
 use Rattle.select.specs.Word.{word_of}
 use Rattle.select.specs.Row.{first_offer, shifted, due_offer, Taken}
+use Rattle.select.proofs.Slices.{part_at}
 
 -- three tests, and what holds where one fails
 module _ (x : ℕ) where
@@ -26,6 +27,19 @@ module _ (x : ℕ) where
 
 pub minutes_read : (v : Version) → v.read ≡ true → minutes_of v ≡ v.cost
 minutes_read v read = rw read
+
+-- what `shift` takes at entry i of the part of a row that it changes
+pub shift_at : (first end cost w : ℕ) (scores words : List ℕ) → cost ≤ first → (i : ℕ) → i < end - first →
+    max (get_or (take (end - first) (drop first words)) i 0)
+    (get_or (take (end - cost - (first - cost)) (drop (first - cost) scores)) i 0 + w)
+    ≡ max (get_or words (first + i) 0) (shifted scores cost w (first + i))
+shift_at first end cost w scores words early i low =
+    let earlier : first - cost + i ≡ first + i - cost = omega arith in
+    rw (
+      part_at first (end - first) words i low,
+      part_at (first - cost) (end - cost - (first - cost)) scores i (omega arith),
+      earlier,
+    )
 
 -- what version k, which is v, takes by `shift`
 module _

@@ -7,19 +7,27 @@ use mathlib.Core.Path.{◌≡◌, refl, ap, ◌∙◌}
 use mathlib.Core.Logic.{◌⊎◌, inl, inr, ⊎_elim}
 use mathlib.Core.Bool.{Bool, true, false, cond}
 use mathlib.Core.List.{List}
-use lib.ListN.{length, get_or}
+use lib.ListN.{length, get_or, take}
 use Rattle.arrays.proofs.Cases.{cond_both}
 use Rattle.arrays.proofs.Patches.{patched_all}
 use Rattle.jobs.specs.declared.model.Version.{Version}
 use Rattle.jobs.specs.declared.model.Job.{Job}
-use Rattle.jobs.specs.Model.{max_versions, version_of, minutes_of}
-use Rattle.select.specs.Word.{max_worth, word_of, word_limit}
-use Rattle.select.specs.Row.{offered, first_offer, shifted, due_offer, Taken}
+use Rattle.jobs.specs.Model.{no_version, version_of, minutes_of}
+use Rattle.select.specs.Word.{word_of, word_limit}
+use Rattle.select.specs.Row.{offered, first_offer, shifted, Offerable, due_offer, Taken}
+use Rattle.select.proofs.Slices.{front_at}
 use Rattle.select.proofs.OfferAnswers.{due_fails}
 use Rattle.select.proofs.Offers.{offered_low, offered_level, offered_before, offered_from, begins_high, offer_taken}
 use Rattle.select.proofs.Offers.{due_offered}
 use Rattle.select.proofs.Cells.{cell_step}
 use Rattle.select.proofs.Rows.{Ready, Bounded, word_at, at_early, at_late, Row, limited}
+
+-- a version of a job's list, counted from 0
+pub listed : (j : Job) (k : ℕ) → k < length (take j.count j.versions) →
+    (k < j.count) × (get_or (take j.count j.versions) k no_version ≡ version_of j (k + 1))
+listed j k more =
+    let here = front_at no_version j.count j.versions k more in
+    (here.0, rw add-one here.1)
 
 module _
     {j : Job} {t e f : ℕ} {scores : List ℕ} (job : Ready j t e f scores)
@@ -128,8 +136,7 @@ module _
         first_high = rw begins (begins_high j (k + 1) t scores is job.ready job.starts)
 
         -- what `offer` and `due_offer` ask of the version
-        pub version_asked :
-            (v.worth ≤ max_worth) × (1 ≤ k + 1) × (k + 1 ≤ max_versions) × (start < length scores → minutes_of v ≤ start)
+        pub version_asked : Offerable v (k + 1) start (length scores)
         version_asked =
             (rw is (job.packable (k + 1) (omega arith) (omega arith)), omega arith, omega (arith, job.few), first_high)
 

@@ -1,12 +1,14 @@
 -- The traceback: the table is read from the last job to the first, each pick under the bound that the jobs after it leave.
-use Prim.Native.Nat.{ℕ, suc, ◌-◌, ◌≤◌, ◌<◌}
+use Prim.Native.Nat.{ℕ, suc, ◌+◌, ◌-◌, ◌*◌, ◌≤◌, ◌<◌}
 use native.Mathlib.Omega.{arith}
 use mathlib.Core.Path.{◌≡◌, refl, sym, ap, subst, ◌∙◌}
 use mathlib.Core.Bool.{true}
 use mathlib.Core.List.{List, ◌∷◌, ◌++◌, append_assoc}
-use mathlib.Core.Option.{Option, none, some}
+use mathlib.Core.Option as math
+use mathlib.Core.Option.{none, some}
 use lib.ListN.{length, get_or, take, drop, set, replicate, length-set}
 use lib.Seq.{length-take-le, set_split, drop_at}
+use Rattle.std.proofs.Common.{Option, Some, None}
 use Rattle.arrays.specs.Position.{backward, forward}
 use Rattle.arrays.proofs.Places.{length_forward, drop-replicate}
 use Rattle.jobs.specs.declared.model.Version.{Version}
@@ -20,15 +22,14 @@ use Rattle.jobs.proofs.Rules.{bound_in}
 use Rattle.jobs.proofs.BestOfAll.{best_some}
 use Rattle.jobs.proofs.Parts.{Parts, pick_none, pick_some}
 use Rattle.jobs.proofs.ChoiceArrays.{length_choice}
-use Rattle.select.specs.declared.choice.BestChoice.{BestChoice}
 use Rattle.select.specs.Table.{entry_at}
 use Rattle.select.specs.Contract.{Readable, best_choice}
 use Rattle.select.proofs.Entries.{Entry, entry_in, table_entry}
 
 -- the answer, where a choice of the first i jobs goes before the entries of the array from i on
-abbrev completed : List ℕ → ℕ → Option (List ℕ) → BestChoice
-completed array i none = best_choice none
-completed array i (some ks) = record { exists = true; choice = forward ks ++ drop i array }
+abbrev completed : List ℕ → ℕ → math.Option (List ℕ) → Option (List ℕ)
+completed array i none = None
+completed array i (some ks) = Some (forward ks ++ drop i array)
 
 -- a version stored at its place leads the entries from there on
 stored : (array : List ℕ) (at k : ℕ) (ks : List ℕ) → at < length array →
@@ -62,7 +63,7 @@ trace_start {list} {close = close} readable =
       answer = by_best (best (jobs_of list) close) refl;
     }
   where
-    by_best : (o : Option (List ℕ)) → best (jobs_of list) close ≡ o → best_choice o ≡ completed (replicate max_jobs 0) list.count o
+    by_best : (o : math.Option (List ℕ)) → best (jobs_of list) close ≡ o → best_choice o ≡ completed (replicate max_jobs 0) list.count o
     by_best none e = refl
     by_best (some ks) e =
         let size : length (forward ks) ≡ list.count =
@@ -75,7 +76,7 @@ module _
     (h : Traceback list t w close table array x i)
   where
     -- no job is left: the answer is the array
-    pub trace_end : i ≡ 0 → record { exists = true; choice = array } ≡ best_choice (best (jobs_of list) close)
+    pub trace_end : i ≡ 0 → Some array ≡ best_choice (best (jobs_of list) close)
     unfolding best
     trace_end first = sym (subst (λ (n : ℕ). Traceback list t w close table array x n) first h).answer
 
@@ -90,9 +91,6 @@ module _
       below : i - 1 < list.count
       below = omega (arith, h.within)
 
-      abbrev k : ℕ
-      k = get_or table (entry_at t w i x) 0
-
       abbrev j : Job
       j = get_or list.jobs (i - 1) no_job
 
@@ -105,45 +103,52 @@ module _
       here : Traceback list t w close table array x (suc (i - 1))
       here = subst (λ (n : ℕ). Traceback list t w close table array x n) position h
 
-      picked : k ≡ pick (j ∷ before) x
-      picked = table_entry entry table h.readable.rows ∙ ap (λ (n : ℕ). pick (backward no_job list.jobs n) x) position
+      -- m is the minute that the pick is looked up at, from the opening on
+      module _ {m : ℕ} (minute : m ≡ x - t) where
+        abbrev k : ℕ
+        k = get_or table ((i - 1) * w + m) 0
 
-      -- a pick of 0: no choice exists
-      pub trace_none : k ≡ 0 → best_choice none ≡ best_choice (best (jobs_of list) close)
-      trace_none zero = sym (here.answer ∙ ap (completed array (suc (i - 1))) (pick_none j before x (sym picked ∙ zero)))
+        picked : k ≡ pick (j ∷ before) x
+        picked =
+            rw minute (table_entry entry table h.readable.rows)
+            ∙ ap (λ (n : ℕ). pick (backward no_job list.jobs n) x) position
 
-      -- any other names a version of the job that fits
-      module _ (other : k ≡ 0 → ⊥) where
-        parts : (ks : List ℕ) × (best (j ∷ before) x ≡ some (k ∷ ks)) × Parts j before x k ks
-        parts = pick_some j before x picked other
+        -- a pick of 0: no choice exists
+        pub trace_none : k ≡ 0 → None ≡ best_choice (best (jobs_of list) close)
+        trace_none zero = sym (here.answer ∙ ap (completed array (suc (i - 1))) (pick_none j before x (sym picked ∙ zero)))
 
-        pub trace_named : (1 ≤ k) × (k ≤ max_versions)
-        trace_named = (parts.2.low, omega (arith, parts.2.high, h.readable.fillable.few (i - 1) below))
+        -- any other names a version of the job that fits
+        module _ (other : k ≡ 0 → ⊥) where
+          parts : (ks : List ℕ) × (best (j ∷ before) x ≡ some (k ∷ ks)) × Parts j before x k ks
+          parts = pick_some j before x picked other
 
-        module _ {v : Version} (named : v ≡ version_of j k) where
-          pub trace_fits : fits j v x ≡ true
-          trace_fits = rw named parts.2.fit
+          pub trace_named : (1 ≤ k) × (k ≤ max_versions)
+          trace_named = (parts.2.low, omega (arith, parts.2.high, h.readable.fillable.few (i - 1) below))
 
-          -- s is its stretch
-          pub trace_step : {s : Stretch} → s ≡ stretch_of j v x →
-              Traceback list t w close table (set array (i - 1) k) s.start (i - 1)
-          unfolding next_bound
-          trace_step {s} kept =
-              let next : next_bound j v x ≡ s.start = ap (λ (q : Stretch). q.start) (sym kept) in
-              let bound = bound_in j v x t (h.readable.fillable.ready (i - 1) below) h.from trace_fits in
-              record {
-                readable = h.readable;
-                within = omega (arith, below);
-                from = omega (arith, bound.0);
-                to = omega (arith, bound.1, h.to);
-                size = length-set array (i - 1) k ∙ h.size;
-                answer =
-                    here.answer
-                    ∙ rw (
-                      parts.1,
-                      ← next,
-                      named,
-                      parts.2.rest,
-                      stored array (i - 1) k parts.0 (omega (arith, below, h.size, h.readable.fillable.most)),
-                    );
-              }
+          module _ {v : Version} (named : v ≡ version_of j k) where
+            pub trace_fits : fits j v x ≡ true
+            trace_fits = rw named parts.2.fit
+
+            -- s is its stretch
+            pub trace_step : {s : Stretch} → s ≡ stretch_of j v x →
+                Traceback list t w close table (set array (i - 1) k) s.start (i - 1)
+            unfolding next_bound
+            trace_step {s} kept =
+                let next : next_bound j v x ≡ s.start = ap (λ (q : Stretch). q.start) (sym kept) in
+                let bound = bound_in j v x t (h.readable.fillable.ready (i - 1) below) h.from trace_fits in
+                record {
+                  readable = h.readable;
+                  within = omega (arith, below);
+                  from = omega (arith, bound.0);
+                  to = omega (arith, bound.1, h.to);
+                  size = length-set array (i - 1) k ∙ h.size;
+                  answer =
+                      here.answer
+                      ∙ rw (
+                        parts.1,
+                        ← next,
+                        named,
+                        parts.2.rest,
+                        stored array (i - 1) k parts.0 (omega (arith, below, h.size, h.readable.fillable.most)),
+                      );
+                }

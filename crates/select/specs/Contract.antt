@@ -1,10 +1,10 @@
 -- What `fill` and `read_off` ask and answer.
-use Rattle.std.specs.Prelude.{ℕ, ◌+◌, ◌*◌, ◌≤◌, ◌<◌, ◌≡◌, true, false, List, length, get_or, take, replicate}
-use Rattle.std.proofs.Math.Option.{Option, none, some}
+use Rattle.std.specs.Prelude.{ℕ, ◌+◌, ◌*◌, ◌≤◌, ◌<◌, ◌≡◌, List, length, get_or, take, Option, Some, None}
+use Rattle.std.proofs.Math.Option as math
+use Rattle.std.proofs.Math.Option.{none, some}
 use Rattle.arrays.specs.Made.{placed}
 use Rattle.jobs.specs.declared.model.JobList.{JobList}
 use Rattle.jobs.specs.Model.{max_jobs, max_versions, no_job, jobs_of}
-use Rattle.select.specs.declared.choice.BestChoice.{BestChoice}
 use Rattle.select.specs.Row.{row_length}
 use Rattle.select.specs.Table.{picks}
 
@@ -24,6 +24,6 @@ pub record Readable (list : JobList) (t w close : ℕ) (table : List ℕ) : Type
   pub rows : take (list.count * w) table ≡ picks (jobs_of list) t w
 
 -- a choice that may not exist, in list order
-abbrev pub best_choice : Option (List ℕ) → BestChoice
-best_choice none = record { exists = false; choice = replicate max_jobs 0 }
-best_choice (some ks) = record { exists = true; choice = placed max_jobs 0 ks }
+abbrev pub best_choice : math.Option (List ℕ) → Option (List ℕ)
+best_choice none = None
+best_choice (some ks) = Some (placed max_jobs 0 ks)

@@ -4,11 +4,11 @@ use Rattle.arrays.specs.Made.{tabulate}
 use Rattle.arrays.specs.Patched.{Patched}
 use Rattle.jobs.specs.declared.model.Version.{Version}
 use Rattle.jobs.specs.declared.model.Job.{Job}
-use Rattle.jobs.specs.Model.{max_span, version_of}
+use Rattle.jobs.specs.Model.{max_span, max_versions, version_of, minutes_of}
 use Rattle.jobs.specs.Rule.{fits, next_bound}
 use Rattle.jobs.specs.Choice.{total}
 use Rattle.jobs.specs.Best.{best, pick}
-use Rattle.select.specs.Word.{score_by, radix, word_of, raised, max_word}
+use Rattle.select.specs.Word.{score_by, radix, word_of, raised, max_worth, max_word}
 
 -- the entries of a row for the longest week
 abbrev pub row_length : ℕ
@@ -41,6 +41,10 @@ first_offer j v t f w =
 -- what a version of word w offers at entry m, from its first on, if it starts `cost` minutes earlier
 abbrev pub shifted : List ℕ → ℕ → ℕ → ℕ → ℕ
 shifted scores cost w m = get_or scores (m - cost) 0 + w
+
+-- what `offer` and `due_offer` ask of version k, which is v, and of its first entry in a row of n
+abbrev pub Offerable : Version → ℕ → ℕ → ℕ → Type 0
+Offerable v k first n = (v.worth ≤ max_worth) × (1 ≤ k) × (k ≤ max_versions) × (first < n → minutes_of v ≤ first)
 
 -- the entry of the due minute, or the end of a row of w entries: from there on a version that is read offers the same
 abbrev pub due_entry : Job → ℕ → ℕ → ℕ

@@ -1,5 +1,5 @@
 -- Packed words: the score of a choice and its last version in one number, so that one comparison tells the better of two choices.
-use Rattle.std.specs.Prelude.{ℕ, suc, ◌+◌, ◌-◌, ◌*◌, ◌%◌, ◌≤◌, ◌<◌, cond, List, eqb}
+use Rattle.std.specs.Prelude.{ℕ, suc, ◌+◌, ◌-◌, ◌*◌, ◌%◌, ◌≤◌, ◌<◌, cond, List, get_or, eqb}
 use Rattle.std.proofs.Math.Option.{Option, none, some}
 use Rattle.arrays.specs.Bits.{max16}
 use Rattle.jobs.specs.declared.model.Job.{Job}
@@ -50,6 +50,13 @@ word_limit = 134217728
 -- a word that leaves room for one worth more
 abbrev pub Low : ℕ → Type 0
 Low x = x + max_word < word_limit
+
+-- of a row: each score leaves that room, and each word is below the limit
+abbrev pub AllLow : List ℕ → Type 0
+AllLow scores = (m : ℕ) → Low (get_or scores m 0)
+
+abbrev pub AllLimited : List ℕ → Type 0
+AllLimited words = (m : ℕ) → get_or words m 0 < word_limit
 
 -- a job whose versions' worths go into words
 abbrev pub Packable : Job → Type 0

@@ -5,7 +5,7 @@ ghost use Rattle.select.specs.Word.{Packable};
 ghost use Rattle.select.specs.Table.{filled};
 ghost use Rattle.select.specs.Contract.{Fillable};
 
-use crate::row::{fill_row, set_all};
+use crate::row::fill_row;
 use crate::word::NO_JOBS;
 use jobs::model::JobList;
 
@@ -21,20 +21,18 @@ pub fn fill(list: JobList, opening: u16, width: usize, table: &mut [u8])
 {
     let mut scores = [0u32; ROW];
     let mut words = [0u32; ROW];
-    set_all(&mut scores[..width], NO_JOBS);
-    let n = list.count;
+    scores[..width].fill(NO_JOBS);
     let mut from = 0;
-    for i in 0..n {
-        let j = list.jobs[i];
+    for (i, j) in list.jobs[..list.count].iter().enumerate() {
+        // By number: after `chunks_exact_mut` a proof knows no entry of the table, and a width of 0 has no chunks.
         let at = i * width;
-        let next = at + width;
         from = fill_row(
-            j,
+            *j,
             opening,
             from,
             &mut scores[..width],
             &mut words[..width],
-            &mut table[at..next],
+            &mut table[at..at + width],
         );
     }
 }

@@ -10,10 +10,9 @@ use Rattle.week.specs.RefusalOrder.{AtFault}
 use Rattle.judge.specs.Fault.{list_fault, WellFormed}
 use Rattle.week.proofs.First.{number_of_lem, refuses_too}
 use Rattle.week.proofs.Naming.{at_fault}
-use Rattle.sheet.specs.declared.read.Reading.{Reading}
 use Rattle.sheet.specs.Line.{lines_of, AreLines}
 use Rattle.sheet.specs.List.{sheet_week}
-use Rattle.sheet.specs.Read.{read_fault, refused_reading, read_answer, WellWritten, ZeroBeyond}
+use Rattle.sheet.specs.Read.{ReadAnswer, read_fault, refused_reading, read_answer, WellWritten, ZeroBeyond}
 use Rattle.sheet.proofs.LinesWhole.{are_lines}
 use Rattle.sheet.proofs.WellWritten.{read_faultless}
 use Rattle.sheet.specs.Holds.{ReadHolds, read_numbers}
@@ -31,7 +30,7 @@ pub read_passes : (sheet : List ℕ) → (read_answer sheet).refusal.number ≡ 
     WellFormed (read_answer sheet).week × ((read_answer sheet).week ≡ sheet_week sheet)
 read_passes sheet z =
     let none = number_of_lem (sym (reading_refusal sheet)) ∙ z in
-    let list = ap (λ (a : Reading). a.week) ((read_answers sheet).passed none) in
+    let list = ap (λ (a : ReadAnswer). a.week) ((read_answers sheet).passed none) in
     (ap list_fault list ∙ ((read_faultless sheet).0 none).list, list)
 
 -- "An answer of refusal is three numbers: its own, a place and a recipe. Anything else that its record holds is 0".

@@ -7,6 +7,7 @@ use mathlib.Core.Logic.{inl, inr, ⊎_elim}
 use mathlib.Core.Bool.{true}
 use mathlib.Core.List.{List, [], ◌∷◌, flatten}
 use lib.ListN.{length}
+use Rattle.std.specs.Prelude.{Option, Some, None}
 use Rattle.arrays.proofs.Tests.{lt_holds, same_holds, same_fails, not_holds}
 use Rattle.week.specs.declared.refusal.Refusal.{Refusal}
 use Rattle.week.specs.Refusal.{refused, first_of}
@@ -17,7 +18,7 @@ use Rattle.week.proofs.Naming.{when_naming, naming_before}
 use Rattle.judge.specs.Holds.{list_numbers}
 use Rattle.judge.proofs.Holding.{list_holds, list_stages, list_naming}
 use Rattle.sheet.specs.declared.frame.Frame.{Frame}
-use Rattle.sheet.specs.declared.frame.Frame.TheVariants.{Week, Batch, None}
+use Rattle.sheet.specs.declared.frame.Frame.TheVariants.{Week, Batch}
 use Rattle.sheet.specs.Line.{lines_of, line_at}
 use Rattle.sheet.specs.Frame.{frame_of}
 use Rattle.sheet.specs.Fault.{max_bytes, size_fault, frame_fault, line_fault, lines_fault}
@@ -30,18 +31,18 @@ abbrev line_stage : ℕ
 line_stage = 1
 
 -- a number for each kind of frame, by which two kinds differ
-kind : Frame → ℕ
+kind : Option Frame → ℕ
 kind None = 0
-kind Week = 1
-kind Batch = 2
+kind (Some Week) = 1
+kind (Some Batch) = 2
 
 -- 16 and 17 of a line
-frame_holds : (i : ℕ) (f : Frame) → FirstToHold (FrameHolds (suc i) f) (frame_fault (suc i) f)
+frame_holds : (i : ℕ) (f : Option Frame) → FirstToHold (FrameHolds (suc i) f) (frame_fault (suc i) f)
 unfolding frame_fault stage rank flatten kind
 frame_holds i None =
     or_here (when_holds 16 (suc i) 0 refl refl) (λ z. omega (arith, z))
     (rank_ahead 16 17 (suc i) refl (omega arith))
-frame_holds i Week =
+frame_holds i (Some Week) =
     or_there (λ s h. omega (arith, ap kind h.1))
     (if_holds 17 (suc i) 0 refl (
       λ h. inr (let n = (not_holds _ (same_fails (suc i) 1)).0 h in (later n, refl)),
@@ -50,14 +51,14 @@ frame_holds i Week =
   where
     later : (suc i ≡ 1 → ⊥) → 1 < suc i
     later n = elim (ℕ_discrete (suc i) 1) [ yes e ↦ absurd (n e) | no _ ↦ omega arith ]
-frame_holds i Batch =
+frame_holds i (Some Batch) =
     or_there (λ s h. omega (arith, ap kind h.1))
     (if_holds 17 (suc i) 0 refl (
       λ h. inl ((same_holds (suc i) 1).0 h, λ e. omega (arith, ap kind e)),
       ⊎_elim (λ h. (same_holds (suc i) 1).1 h.0) (λ h. absurd (omega (arith, ap kind h.1))),
     ))
 
-frame_place : (i : ℕ) (f : Frame) → AtPlace line_stage i (FrameHolds i f)
+frame_place : (i : ℕ) (f : Option Frame) → AtPlace line_stage i (FrameHolds i f)
 unfolding stage
 frame_place i f r = ⊎_elim (when_place 16 i 0 r) (when_place 17 i 0 r)
 

@@ -1,16 +1,22 @@
 -- Where a line of a sheet ends.
-use Prim.Native.Nat.{ℕ, zero, suc, ◌+◌, ◌-◌, ◌≤◌, ◌<◌}
-use native.Mathlib.Decide.{ℕ_discrete}
+use Prim.Native.Nat.{ℕ, zero, suc, ◌+◌, ◌≤◌, ◌<◌, min}
+use native.Mathlib.Decide.{ℕ_discrete, dec_lt}
 use native.Mathlib.Omega.{arith}
-use mathlib.Core.Path.{◌≡◌, refl, sym, ap, ◌∙◌}
+use mathlib.Core.Bool.{Bool}
+use mathlib.Core.Path.{◌≡◌, refl, ap, ◌∙◌}
 use mathlib.Core.Logic.{◌↔◌}
-use mathlib.Core.List.{List, [], ◌∷◌}
-use lib.ListN.{length, get_or, take, drop, length-drop}
-use lib.Seq.{take_all, drop-drop, drop-length, get_or-drop}
-use borrow.Author.Tests.{eq-eqb, ne_eqb}
+use mathlib.Core.List.{List, [], ◌∷◌, ◌++◌, append-nil}
+use lib.ListN.{length, get_or, take, drop, length-append}
+use lib.Dec.{eqb}
+use lib.Seq.{take_at, drop_at}
+use borrow.Author.Tests.{eq-eqb, ne_eqb, eqb-true, eqb-false}
+use denote.Param.Members.{Mut}
+use denote.Ref.{Bor}
+use Rattle.std.specs.Fn.{Called, ComputesKey}
+use Rattle.std.specs.List.{IsFirstMatchOrLen}
+use Rattle.std.proofs.lemmas.Fn.{always_returns_same}
 use Rattle.arrays.specs.Text.{line_feed}
 use Rattle.sheet.specs.Line.{joined, lines_of}
-use Rattle.sheet.specs.Contract.{LineEnd}
 
 -- a line feed is the last byte of its line
 pub lines_feed : (b : ℕ) (bs : List ℕ) → b ≡ line_feed → lines_of (b ∷ bs) ≡ (b ∷ []) ∷ lines_of bs
@@ -54,36 +60,50 @@ last_line (b ∷ c ∷ bs) some none =
     lines_other b (c ∷ bs) (none 0 (omega arith))
     ∙ ap (joined b) (last_line (c ∷ bs) (omega arith) (λ k l. none (suc k) (omega arith)))
 
--- no line feed from `start` up to i
-abbrev pub NoFeed : List ℕ → ℕ → ℕ → Type 0
-NoFeed s start i = (k : ℕ) → k < i → start ≤ k → get_or s k 0 ≡ line_feed → ⊥
+abbrev pub is_feed : ℕ → Bool
+is_feed b = eqb b line_feed
 
-module _ (s : List ℕ) (start i : ℕ) (none : NoFeed s start i) where
-  -- the same of the bytes from `start` on
-  none_dropped : (k : ℕ) → k < i - start → get_or (drop start s) k 0 ≡ line_feed → ⊥
-  none_dropped k l e = none (start + k) (omega arith) (omega arith) (sym (get_or-drop start s k 0) ∙ e)
+-- a part as long as the whole is the whole
+all_line : (line rest : List ℕ) → length (line ++ rest) ≤ length line → (line ++ rest ≡ line) × (rest ≡ [])
+all_line line [] all = (append-nil line, refl)
+all_line line (b ∷ bs) all = absurd (omega (arith, length-append line (b ∷ bs)))
 
-  pub line_found : start ≤ i → i < length s → get_or s i 0 ≡ line_feed → LineEnd s start (i + 1)
-  line_found low within e =
-      let size : suc (i - start) ≡ i + 1 - start = omega arith in
-      let next : start + suc (i - start) ≡ i + 1 = omega arith in
-      let here : start + (i - start) ≡ i = omega arith in
-      record {
-        after = omega arith;
-        within = omega arith;
-        lines =
-            first_line (i - start) (drop start s) (omega (arith, length-drop start s)) none_dropped
-            (get_or-drop start s (i - start) 0 ∙ ap (λ (k : ℕ). get_or s k 0) here ∙ e)
-            ∙ rw (drop-drop, next, size);
-      }
+-- what is cut off after the first line feed, or as a whole where there is none, is the first line, and what is left has the others
+first_cut : {left line : List ℕ} (rest : List ℕ) → left ≡ line ++ rest → (i : ℕ) → length line ≡ min (i + 1) (length left) →
+    IsFirstMatchOrLen is_feed left i → 0 < length left → lines_of left ≡ line ∷ lines_of rest
+first_cut {left} {line} rest cut i size at some =
+    elim (dec_lt i (length left)) [
+      | yes found ↦
+          let end : length line ≡ suc i = omega arith in
+          first_line i left found (λ k l. eqb-false _ _ (at.0 k 0 (omega arith) l)) (eqb-true _ _ (at.1 found 0))
+          ∙ rw (cut, take_at line rest (suc i) end, drop_at line rest (suc i) end)
+      | no none ↦
+          let all = all_line line rest (omega (arith, ap length cut)) in
+          last_line left some (λ k l. eqb-false _ _ (at.0 k 0 (omega arith) (omega arith)))
+          ∙ rw (cut, all.0, all.1)
+    ]
 
-  pub line_last : length s ≤ i → start < length s → LineEnd s start (length s)
-  line_last over more =
-      let size = length-drop start s in
-      record {
-        after = more;
-        within = omega arith;
-        lines =
-            last_line (drop start s) (omega (arith, size)) (λ k l. none_dropped k (omega (arith, size)))
-            ∙ rw (take_all (length s - start) (drop start s) (omega (arith, size)), drop-length);
-      }
+-- what a turn of `split_inclusive` gives, where its test is whether a byte is a line feed
+pub next_line : {F : Type 0} (g : Mut F (Bor ℕ × Unit {0}) Bool) (f f' : F) {left line : List ℕ} (rest : List ℕ) →
+    (left ≡ line ++ rest)
+    × ((i : ℕ)
+    × (length line ≡ min (i + 1) (length left))
+    × ((p : ℕ → Bool) → ComputesKey g p f → ComputesKey g p f' × IsFirstMatchOrLen p left i))
+    × (0 < length left) →
+    ((a : Bor ℕ × Unit {0}) (r : Bool) (q : F) → Called g f a r q → (r ≡ is_feed a.0.now) × (q ≡ f)) →
+    lines_of left ≡ line ∷ lines_of rest
+next_line g f f' rest (cut, (i, size, at), some) key =
+    first_cut rest cut i size (at is_feed (always_returns_same g (λ a r. r ≡ is_feed a.0.now) f key)).1 some
+
+-- a sheet has no more lines than bytes
+joined_length : (b : ℕ) (lines : List (List ℕ)) → length (joined b lines) ≤ suc (length lines)
+joined_length b [] = omega arith
+joined_length b (line ∷ lines) = omega arith
+
+pub lines_most : (s : List ℕ) → length (lines_of s) ≤ length s
+lines_most [] = omega arith
+lines_most (b ∷ bs) =
+    elim (ℕ_discrete b line_feed) [
+      | yes e ↦ rw (lines_feed b bs e) (omega (arith, lines_most bs))
+      | no n ↦ rw (lines_other b bs n) (omega (arith, lines_most bs, joined_length b (lines_of bs)))
+    ]

@@ -2,16 +2,16 @@
 use Prim.Native.Nat.{ℕ, ◌+◌, ◌-◌}
 use native.Mathlib.Numerals.{add-one}
 use mathlib.Core.Path.{◌≡◌, ◌∙◌}
-use mathlib.Core.List.{List}
+use mathlib.Core.List.{List, ◌∷◌}
 use lib.ListN.{length}
 use borrow.Author.Tests.{eq-eqb, ne_eqb}
+use Rattle.std.specs.Prelude.{Option}
 use Rattle.week.specs.declared.refusal.Refusal.{Refusal}
 use Rattle.week.specs.Refusal.{refused, refused_if, or_else, first_of, first}
 use Rattle.week.proofs.First.{search_after}
 use Rattle.sheet.specs.declared.frame.Frame.{Frame}
 use Rattle.sheet.specs.Line.{lines_of}
 use Rattle.sheet.specs.Frame.{frame_of}
-use Rattle.sheet.specs.Contract.{part_of, LineEnd}
 use Rattle.sheet.specs.Fault.{frame_fault, line_fault, lines_fault}
 use Rattle.sheet.proofs.Lines.{lines_none}
 use Rattle.sheet.proofs.Reached.{Reached, reached_line}
@@ -27,8 +27,9 @@ module _ (s : List ℕ) where
   unfolding lines_fault
   fault_start n = search_after _ _ _ _ _ (ne_eqb _ _ (λ z. n ((lines_none s).0 z)))
 
--- what is asked of the part of the sheet that the loop has come to is asked of its line
-pub fault_at : {s : List ℕ} {i start end : ℕ} → Reached s i start → LineEnd s start end → {frame : Frame} {r : Refusal} →
-    frame ≡ frame_of (part_of s start end) → r ≡ frame_fault (i + 1) frame → r ≡ line_fault (lines_of s) i
+-- what is asked of the line that the loop has come to
+pub fault_at : {lines ahead rest : List (List ℕ)} {i : ℕ} {line : List ℕ} → Reached lines ahead i → ahead ≡ line ∷ rest →
+    {at : ℕ} {frame : Option Frame} {r : Refusal} → at ≡ i → frame ≡ frame_of line → r ≡ frame_fault (at + 1) frame →
+    r ≡ line_fault lines i
 unfolding line_fault
-fault_at {i = i} h at-line f e = e ∙ rw (f, reached_line h at-line, add-one i)
+fault_at {i = i} h next at f e = e ∙ rw (at, f, reached_line h next, add-one i)

@@ -7,40 +7,41 @@ use mathlib.Core.Logic.{◌↔◌}
 use mathlib.Core.List.{List, [], ◌∷◌}
 use lib.ListN.{length}
 use borrow.Author.Tests.{eqb-true, eqb-false, ne_eqb, not-false}
+use Rattle.std.specs.Prelude.{Option, Some, None}
 use Rattle.arrays.proofs.Tests.{zero_fails}
 use Rattle.week.proofs.First.{number_of_lem, refused_if_none, refused_if_false}
 use Rattle.week.proofs.Passes.{Passes, if_passes, first_of_passes, first_passes}
 use Rattle.sheet.specs.declared.frame.Frame.{Frame}
-use Rattle.sheet.specs.declared.frame.Frame.TheVariants.{Week, Batch, None}
+use Rattle.sheet.specs.declared.frame.Frame.TheVariants.{Week, Batch}
 use Rattle.sheet.specs.Line.{lines_of, line_at}
 use Rattle.sheet.specs.Frame.{frame_of}
 use Rattle.sheet.specs.Fault.{frame_fault, line_fault, lines_fault}
 
 -- the first line
-week_passes : (f : Frame) → Passes (frame_fault 1 f) ↔ (f ≡ Week)
+week_passes : (f : Option Frame) → Passes (frame_fault 1 f) ↔ (f ≡ Some Week)
 unfolding frame_fault
 week_passes f = (is_week_lem f, λ e. rw e (number_of_lem (refused_if_false 17 1 0 refl)))
   where
-    is_week_lem : (f : Frame) → Passes (frame_fault 1 f) → f ≡ Week
+    is_week_lem : (f : Option Frame) → Passes (frame_fault 1 f) → f ≡ Some Week
     is_week_lem None z = absurd (omega arith)
-    is_week_lem Week z = refl
-    is_week_lem Batch z = absurd (eqb-false 1 1 (refused_if_none 17 1 0 refl _ z) refl)
+    is_week_lem (Some Week) z = refl
+    is_week_lem (Some Batch) z = absurd (eqb-false 1 1 (refused_if_none 17 1 0 refl _ z) refl)
 
 -- a later one
-batch_passes : (place : ℕ) → 1 < place → (f : Frame) → Passes (frame_fault place f) ↔ (f ≡ Batch)
+batch_passes : (place : ℕ) → 1 < place → (f : Option Frame) → Passes (frame_fault place f) ↔ (f ≡ Some Batch)
 unfolding frame_fault
 batch_passes place later f = (is_batch_lem f, λ e. rw e (number_of_lem (refused_if_false 17 place 0 (ne_eqb place 1 (λ one. omega arith)))))
   where
-    is_batch_lem : (f : Frame) → Passes (frame_fault place f) → f ≡ Batch
+    is_batch_lem : (f : Option Frame) → Passes (frame_fault place f) → f ≡ Some Batch
     is_batch_lem None z = absurd (omega arith)
-    is_batch_lem Week z = absurd (omega (arith, eqb-true place 1 (not-false _ (refused_if_none 17 place 0 refl _ z))))
-    is_batch_lem Batch z = refl
+    is_batch_lem (Some Week) z = absurd (omega (arith, eqb-true place 1 (not-false _ (refused_if_none 17 place 0 refl _ z))))
+    is_batch_lem (Some Batch) z = refl
 
 -- all lines
 pub record WeekThenBatches (lines : List (List ℕ)) : Type 0 where
   pub some : 0 < length lines
-  pub week : frame_of (line_at lines 0) ≡ Week
-  pub batches : (i : ℕ) → 1 ≤ i → i < length lines → frame_of (line_at lines i) ≡ Batch
+  pub week : frame_of (line_at lines 0) ≡ Some Week
+  pub batches : (i : ℕ) → 1 ≤ i → i < length lines → frame_of (line_at lines i) ≡ Some Batch
 
 module _ (lines : List (List ℕ)) where
   each_placed : 0 < length lines → ((i : ℕ) → i < length lines → Passes (line_fault lines i)) → WeekThenBatches lines

@@ -4,19 +4,21 @@ use mathlib.Core.Path.{◌≡◌, refl, sym, ap, ◌∙◌}
 use mathlib.Core.List.{List}
 use lib.ListN.{length}
 use borrow.Author.Tests.{lt-ltb, le-ltb}
+use Rattle.std.specs.Prelude.{Ok, Err}
 use Rattle.week.specs.declared.record.Week.{Week}
+use Rattle.week.specs.declared.refusal.Fault.{Fault}
 use Rattle.week.specs.declared.refusal.Refusal.{Refusal}
 use Rattle.week.specs.Refusal.{accepted, refused}
-use Rattle.judge.specs.Fault.{list_fault}
+use Rattle.week.specs.Fault.{numbers}
 use Rattle.week.proofs.First.{number_of_lem, refuses, refuses_too, refused_if_true, refused_if_false, first_of_here, first_of_later}
 use Rattle.week.proofs.First.{first_of_last, first_of_proper}
 use Rattle.week.proofs.Answering.{Answers, answers, answers_name}
+use Rattle.judge.specs.Fault.{list_fault}
 use Rattle.judge.proofs.WellFormed.{list_proper}
-use Rattle.sheet.specs.declared.read.Reading.{Reading}
 use Rattle.sheet.specs.Line.{lines_of}
 use Rattle.sheet.specs.Fault.{max_bytes, size_fault, lines_fault}
 use Rattle.sheet.specs.List.{sheet_week}
-use Rattle.sheet.specs.Read.{read_fault, refused_reading, read_answer}
+use Rattle.sheet.specs.Read.{ReadAnswer, read_fault, refused_reading, read_answer, answer_of}
 
 module _ (sheet : List ℕ) where
   pub read_answers :
@@ -27,7 +29,7 @@ module _ (sheet : List ℕ) where
   -- the refusal answered is the first of the order
   pub reading_refusal : (read_answer sheet).refusal ≡ read_fault sheet
   unfolding read_fault refused_reading
-  reading_refusal = answers_name read_answers (λ (a : Reading). a.refusal) (λ z. refl) (λ r. refl) (first_of_proper _)
+  reading_refusal = answers_name read_answers (λ (a : ReadAnswer). a.refusal) (λ z. refl) (λ r. refl) (first_of_proper _)
 
   -- the sheet is too long
   pub large_refused : max_bytes < length sheet → {r : Refusal} → r ≡ refused 18 0 0 → read_answer sheet ≡ refused_reading r
@@ -55,5 +57,16 @@ module _ (sheet : List ℕ) where
       pub list_refused : {r : Refusal} → r ≡ list_fault w → (r.number ≡ 0 → ⊥) → read_answer sheet ≡ refused_reading r
       list_refused e n = read_answers.refused (fault_list ∙ sym e) n
 
-      pub list_passed : (list_fault w).number ≡ 0 → {r : Refusal} → r ≡ accepted → read_answer sheet ≡ record { refusal = r; week = w }
-      list_passed z e = read_answers.passed (number_of_lem fault_list ∙ z) ∙ rw (e, is)
+      pub list_passed : list_fault w ≡ accepted → read_answer sheet ≡ record { refusal = accepted; week = w }
+      list_passed e = read_answers.passed (number_of_lem (fault_list ∙ e)) ∙ rw is
+
+-- what the code hands back, where its answer is the reader's: what refuses, or the list
+module _ (sheet : List ℕ) where
+  pub handed_fault : (fault : Fault) → answer_of (Err fault) ≡ read_answer sheet → numbers fault ≡ read_fault sheet
+  unfolding refused_reading
+  handed_fault fault e = ap (λ (a : ReadAnswer). a.refusal) e ∙ reading_refusal sheet
+
+  pub handed_week : (week : Week) → answer_of (Ok week) ≡ read_answer sheet → ((read_fault sheet).number ≡ 0) × (week ≡ sheet_week sheet)
+  handed_week week e =
+      let none = number_of_lem (sym (ap (λ (a : ReadAnswer). a.refusal) e ∙ reading_refusal sheet)) in
+      (none, ap (λ (a : ReadAnswer). a.week) (e ∙ (read_answers sheet).passed none))

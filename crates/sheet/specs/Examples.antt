@@ -11,12 +11,11 @@ use Rattle.week.specs.Order.{before}
 use Rattle.week.specs.Refusal.{refused_if, or_else, first_of, first, unless_refused, answer_by, at_place}
 use Rattle.judge.specs.Fault.{week_fault, number_fault, order_fault, batch_fault, list_fault}
 use Rattle.judge.specs.BatchFault.{cost_fault, worth_fault}
-use Rattle.sheet.specs.declared.read.Reading.{Reading}
 use Rattle.sheet.specs.Hex.{is_digit, digit_of, byte_at, word_at}
 use Rattle.sheet.specs.Frame.{is_week, is_batch, frame_of}
 use Rattle.sheet.specs.Fault.{size_fault, frame_fault, line_fault, lines_fault}
 use Rattle.sheet.specs.List.{batch_from, week_from}
-use Rattle.sheet.specs.Read.{read_fault, refused_reading, read_answer}
+use Rattle.sheet.specs.Read.{ReadAnswer, read_fault, refused_reading, read_answer}
 
 abbrev recipe_numbers : Recipe → List ℕ
 recipe_numbers r = r.cost ∷ r.worth ∷ []
@@ -25,7 +24,7 @@ abbrev batch_numbers : Batch → List ℕ
 batch_numbers b = b.number ∷ b.arrival ∷ b.due ∷ b.count ∷ flatten (map recipe_numbers (take b.count b.recipes))
 
 -- what is answered: the refusal's three numbers, the opening, the close, the batches, and each batch with its recipes
-abbrev numbers : Reading → List ℕ
+abbrev numbers : ReadAnswer → List ℕ
 numbers r =
     let w = r.week in
     r.refusal.number ∷ r.refusal.place ∷ r.refusal.recipe ∷ w.opening ∷ w.closing ∷ w.count

@@ -1,5 +1,5 @@
 -- Refusals 16 to 18: document 01, "Who can be refused, and why".
-use Rattle.std.specs.Prelude.{ℕ, suc, not, List, [], ◌∷◌, length, ltb, eqb}
+use Rattle.std.specs.Prelude.{ℕ, suc, not, List, [], ◌∷◌, length, ltb, eqb, Option, Some, None}
 use Rattle.week.specs.declared.refusal.Refusal.{Refusal}
 use Rattle.week.specs.Refusal.{refused, refused_if, first_of, first}
 use Rattle.sheet.specs.declared.frame.Frame.{Frame}
@@ -16,10 +16,10 @@ size_fault sheet = refused_if 18 0 0 (ltb max_bytes (length sheet))
 
 -- "16: a line that is no frame, or has no line feed." "17: the first line .. is no week, or a later one is a week.": the place is
 -- "the line from 1"
-unfoldable pub frame_fault : ℕ → Frame → Refusal
-frame_fault place frame.None = refused 16 place 0
-frame_fault place frame.Week = refused_if 17 place 0 (not (eqb place 1))
-frame_fault place frame.Batch = refused_if 17 place 0 (eqb place 1)
+unfoldable pub frame_fault : ℕ → Option Frame → Refusal
+frame_fault place None = refused 16 place 0
+frame_fault place (Some frame.Week) = refused_if 17 place 0 (not (eqb place 1))
+frame_fault place (Some frame.Batch) = refused_if 17 place 0 (eqb place 1)
 
 -- the line of index i
 unfoldable pub line_fault : List (List ℕ) → ℕ → Refusal

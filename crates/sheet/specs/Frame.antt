@@ -1,7 +1,7 @@
 -- What a line is: document 01, "The sheet".
-use Rattle.std.specs.Prelude.{ℕ, ◌+◌, ◌*◌, Bool, cond, ◌&&◌, List, length, eqb}
+use Rattle.std.specs.Prelude.{ℕ, ◌+◌, ◌*◌, Bool, cond, ◌&&◌, List, length, eqb, Option, Some, None}
 use Rattle.sheet.specs.declared.frame.Frame.{Frame}
-use Rattle.sheet.specs.declared.frame.Frame.TheVariants.{Week, Batch, None}
+use Rattle.sheet.specs.declared.frame.Frame.TheVariants.{Week, Batch}
 use Rattle.sheet.specs.Hex.{byte_at}
 use Rattle.sheet.specs.Line.{hex_line}
 
@@ -19,5 +19,5 @@ unfoldable pub is_batch : List ℕ → Bool
 is_batch line = eqb (byte_at line 0) 2 && eqb (length line) (length_of (8 + 4 * byte_at line 7))
 
 -- "Any other line is no frame."
-unfoldable pub frame_of : List ℕ → Frame
-frame_of line = cond (hex_line line) (cond (is_week line) Week (cond (is_batch line) Batch None)) None
+unfoldable pub frame_of : List ℕ → Option Frame
+frame_of line = cond (hex_line line) (cond (is_week line) (Some Week) (cond (is_batch line) (Some Batch) None)) None

@@ -1,5 +1,5 @@
 -- When the condition of each of 16 to 18 holds, and where: document 01, "Who can be refused, and why". Lines are numbered from 1.
-use Rattle.std.specs.Prelude.{ℕ, ◌<◌, ◌≡◌, ◌⊎◌, List, [], ◌∷◌, ◌++◌, length}
+use Rattle.std.specs.Prelude.{ℕ, ◌<◌, ◌≡◌, ◌⊎◌, List, [], ◌∷◌, ◌++◌, length, Option, Some, None}
 use Rattle.arrays.specs.Position.{at_position}
 use Rattle.week.specs.declared.refusal.Refusal.{Refusal}
 use Rattle.week.specs.Refusal.{refused}
@@ -14,10 +14,10 @@ use Rattle.sheet.specs.List.{sheet_week}
 
 -- "16: a line that is no frame, or has no line feed." "17: the first line .. is no week, or a later one is a week.": line i. A line
 -- without its line feed is no frame.
-abbrev pub FrameHolds : ℕ → Frame → Refusal → Type 0
+abbrev pub FrameHolds : ℕ → Option Frame → Refusal → Type 0
 FrameHolds i f =
-    (refused 16 i 0 when (f ≡ frame.None))
-    or (refused 17 i 0 when (((i ≡ 1) × (f ≡ frame.Week → ⊥)) ⊎ ((1 < i) × (f ≡ frame.Week))))
+    (refused 16 i 0 when (f ≡ None))
+    or (refused 17 i 0 when (((i ≡ 1) × (f ≡ Some frame.Week → ⊥)) ⊎ ((1 < i) × (f ≡ Some frame.Week))))
 
 abbrev pub LineHolds : List (List ℕ) → ℕ → Refusal → Type 0
 LineHolds lines i = FrameHolds i (frame_of (at_position [] lines i))

@@ -5,5 +5,4 @@ pub mod Fault
 pub mod List
 pub mod Read
 pub mod Holds
-pub mod Contract
 pub mod Examples

@@ -1,13 +1,14 @@
 -- Reading a sheet: what is answered, on every sequence of bytes.
-use Rattle.std.specs.Prelude.{ℕ, ◌≤◌, ◌<◌, ◌≡◌, List, [], ◌∷◌, length}
+use Rattle.std.specs.Prelude.{ℕ, ◌≤◌, ◌<◌, ◌≡◌, List, [], ◌∷◌, length, Some, Result, Ok, Err}
 use Rattle.arrays.specs.Position.{at_position}
 use Rattle.week.specs.declared.record.Week.{Week}
+use Rattle.week.specs.declared.refusal.Fault.{Fault}
 use Rattle.week.specs.declared.refusal.Refusal.{Refusal}
 use Rattle.week.specs.Record.{no_recipe, empty_batch, empty_week, batch_of, recipe_of}
 use Rattle.week.specs.Refusal.{accepted, first_of, answer_by}
+use Rattle.week.specs.Fault.{numbers}
 use Rattle.judge.specs.Fault.{list_fault, WellFormed}
 use Rattle.sheet.specs.declared.frame.Frame.TheVariants as frame
-use Rattle.sheet.specs.declared.read.Reading.{Reading}
 use Rattle.sheet.specs.Line.{lines_of, line_at}
 use Rattle.sheet.specs.Frame.{frame_of}
 use Rattle.sheet.specs.Fault.{max_bytes, size_fault, lines_fault}
@@ -20,20 +21,30 @@ read_faults sheet = size_fault sheet ∷ lines_fault (lines_of sheet) ∷ list_f
 unfoldable pub read_fault : List ℕ → Refusal
 read_fault sheet = first_of (read_faults sheet)
 
+-- 01's answer: the refusal's three numbers, and the list of the sheet
+pub record ReadAnswer : Type 0 where
+  pub refusal : Refusal
+  pub week : Week
+
 -- "Anything else that its record holds is 0".
-unfoldable pub refused_reading : Refusal → Reading
+unfoldable pub refused_reading : Refusal → ReadAnswer
 refused_reading r = record { refusal = r; week = empty_week 0 0 }
 
 -- "Read a sheet, answering a list that passed 1 to 10."
-unfoldable pub read_answer : List ℕ → Reading
+unfoldable pub read_answer : List ℕ → ReadAnswer
 read_answer sheet = answer_by (read_fault sheet) refused_reading (record { refusal = accepted; week = sheet_week sheet })
+
+-- the same answer, of what the code hands back
+abbrev pub answer_of : Result Week Fault → ReadAnswer
+answer_of (Ok week) = record { refusal = accepted; week = week }
+answer_of (Err fault) = refused_reading (numbers fault)
 
 -- a sheet that gives a list: 18, 16, 17 and 1 to 10 do not hold of it
 pub record WellWritten (sheet : List ℕ) : Type 0 where
   pub short : length sheet ≤ max_bytes
   pub some : 0 < length (lines_of sheet)
-  pub first : frame_of (line_at (lines_of sheet) 0) ≡ frame.Week
-  pub later : (i : ℕ) → 1 ≤ i → i < length (lines_of sheet) → frame_of (line_at (lines_of sheet) i) ≡ frame.Batch
+  pub first : frame_of (line_at (lines_of sheet) 0) ≡ Some frame.Week
+  pub later : (i : ℕ) → 1 ≤ i → i < length (lines_of sheet) → frame_of (line_at (lines_of sheet) i) ≡ Some frame.Batch
   pub list : WellFormed (sheet_week sheet)
 
 -- "Places of an answer beyond n hold 0": the batches, and of each batch the recipes

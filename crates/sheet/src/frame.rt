@@ -5,11 +5,10 @@ ghost use Rattle.sheet.specs.Frame.{is_week, is_batch, frame_of};
 use crate::hex::byte_at;
 use crate::line::is_hex_line;
 
-#[derive(Clone, Copy)]
+#[derive(Clone, Copy, Debug, PartialEq, Eq)]
 pub(crate) enum Frame {
     Week,
     Batch,
-    None,
 }
 
 // The length of a week's line, of a batch's line without recipes, and of each recipe on it.
@@ -20,41 +19,38 @@ const BATCH_LENGTH: usize = 17;
 const RECIPE_LENGTH: usize = 8;
 
 // Document 01: "Week: 01, t, c."
+#[tactic(auto, unfolding(crate::specs::Frame::is_week))]
 fn is_week(line: &[u8]) -> bool
     ensures { result ≡ is_week line.now }
 {
-    if line.len() != WEEK_LENGTH {
-        return false;
-    }
-    byte_at(line, 0) == 1
+    line.len() == WEEK_LENGTH && byte_at(line, 0) == 1
 }
 
 // Document 01: "Batch: 02, number, r, d, one byte with the count of recipes, then cost and worth for each. The length must agree
 // with the count."
+#[tactic(auto, unfolding(crate::specs::Frame::is_batch))]
 fn is_batch(line: &[u8]) -> bool
     ensures { result ≡ is_batch line.now }
 {
-    if line.len() < BATCH_LENGTH {
+    if line.len() < BATCH_LENGTH || byte_at(line, 0) != 2 {
         return false;
     }
-    if byte_at(line, 0) != 2 {
-        return false;
-    }
-    let count = byte_at(line, 7) as usize;
+    let count = usize::from(byte_at(line, 7));
     line.len() == BATCH_LENGTH + RECIPE_LENGTH * count
 }
 
-pub(crate) fn frame_of(line: &[u8]) -> Frame
+#[tactic(auto, unfolding(crate::specs::Frame::frame_of))]
+pub(crate) fn frame_of(line: &[u8]) -> Option<Frame>
     ensures { result ≡ frame_of line.now }
 {
     if !is_hex_line(line) {
-        return Frame::None;
+        return None;
     }
     if is_week(line) {
-        return Frame::Week;
+        return Some(Frame::Week);
     }
     if is_batch(line) {
-        return Frame::Batch;
+        return Some(Frame::Batch);
     }
-    Frame::None
+    None
 }

@@ -1,36 +1,25 @@
 // The lines of a sheet.
-ghost use Rattle.std.specs.Prelude.{◌≡◌, ◌<◌, length};
+ghost use Rattle.std.specs.Prelude.{◌≡◌, ◌==◌};
+ghost use Rattle.arrays.specs.Text.{line_feed};
 ghost use Rattle.sheet.specs.Line.{hex_line};
-ghost use Rattle.sheet.specs.Contract.{LineEnd};
 
-use crate::hex::is_digit;
+use crate::hex::digit;
 
 const LINE_FEED: u8 = b'\n';
 
-// Where the line that starts at `start` ends: after its line feed, or with the sheet.
-pub(crate) fn line_end(sheet: &[u8], start: usize) -> usize
-    requires { start < length sheet.now }
-    ensures { LineEnd sheet.now start result }
+// Document 01: "Each line is one frame .., ended by a line feed." `split_inclusive` cuts a sheet after each byte of which this is true.
+pub(crate) fn ends_line(b: &u8) -> bool
+    ensures { result ≡ (b.now == line_feed) }
 {
-    for i in start..sheet.len() {
-        if sheet[i] == LINE_FEED {
-            return i + 1;
-        }
-    }
-    sheet.len()
+    *b == LINE_FEED
 }
 
 // Whether a line is digits, ended by a line feed.
 pub(crate) fn is_hex_line(line: &[u8]) -> bool
     ensures { result ≡ hex_line line.now }
 {
-    let mut i = 0;
-    while i < line.len() {
-        let b = line[i];
-        i += 1;
-        if !is_digit(b) {
-            return b == LINE_FEED && i == line.len();
-        }
+    match line.split_last() {
+        Some((last, digits)) => ends_line(last) && digits.iter().all(|b| digit(*b).is_some()),
+        None => false,
     }
-    false
 }

@@ -1,34 +1,45 @@
 // From lines that are frames to the list that they hold.
-ghost use Rattle.std.specs.Prelude.{◌≡◌};
+ghost use Rattle.std.specs.Prelude.{◌≡◌, ◌+◌, ◌*◌, ◌<◌, length, Some};
 ghost use Rattle.sheet.specs.declared.frame.Frame.TheVariants as frame;
 ghost use Rattle.sheet.specs.Line.{lines_of};
 ghost use Rattle.sheet.specs.Frame.{frame_of};
 ghost use Rattle.sheet.specs.Fault.{lines_fault};
-ghost use Rattle.sheet.specs.List.{batch_from, sheet_week};
+ghost use Rattle.sheet.specs.List.{recipe_from, batch_from, sheet_week};
 
 use crate::hex::{byte_at, word_at};
-use crate::line::line_end;
+use crate::line::ends_line;
 use week::record::{Batch, Recipe, Week};
 
+// The recipe of index k, on a batch's line.
+fn recipe_of(line: &[u8], k: usize) -> Recipe
+    requires { 2 * (10 + 4 * k) + 3 < length line.now }
+    ensures { result ≡ recipe_from line.now k }
+{
+    Recipe {
+        cost: word_at(line, 8 + 4 * k),
+        worth: word_at(line, 10 + 4 * k),
+    }
+}
+
 // The batch of a line; recipes after the tenth are counted and not stored.
+#[tactic(auto, using(crate::proofs::Frames::batch_length))]
 fn batch_of(line: &[u8]) -> Batch
-    requires { frame_of line.now ≡ frame.Batch }
+    requires { frame_of line.now ≡ Some frame.Batch }
     ensures { result ≡ batch_from line.now }
 {
-    let mut batch = Batch::empty();
-    batch.number = word_at(line, 1);
-    batch.arrival = word_at(line, 3);
-    batch.due = word_at(line, 5);
-    let count = byte_at(line, 7) as usize;
-    batch.count = count;
-    let mut k = 0;
-    while k < count && k < Batch::MAX_RECIPES {
-        let cost = word_at(line, 8 + 4 * k);
-        let worth = word_at(line, 10 + 4 * k);
-        batch.recipes[k] = Recipe { cost, worth };
-        k += 1;
+    let count = usize::from(byte_at(line, 7));
+    let mut recipes = Batch::empty().recipes;
+    let stored = count.min(Batch::MAX_RECIPES);
+    for (k, recipe) in recipes[..stored].iter_mut().enumerate() {
+        *recipe = recipe_of(line, k);
     }
-    batch
+    Batch {
+        number: word_at(line, 1),
+        arrival: word_at(line, 3),
+        due: word_at(line, 5),
+        count,
+        recipes,
+    }
 }
 
 // The list of a sheet; batches after the sixteenth are counted and not stored.
@@ -36,18 +47,21 @@ pub(crate) fn week_of(sheet: &[u8]) -> Week
     requires { (lines_fault (lines_of sheet.now)).number ≡ 0 }
     ensures { result ≡ sheet_week sheet.now }
 {
-    let mut start = line_end(sheet, 0);
-    let first = &sheet[0..start];
-    let mut week = Week::empty(word_at(first, 1), word_at(first, 3));
-    let mut i = 0;
-    while start < sheet.len() {
-        let end = line_end(sheet, start);
-        if i < Week::MAX_BATCHES {
-            week.batches[i] = batch_of(&sheet[start..end]);
+    let mut lines = sheet.split_inclusive(ends_line);
+    let first = lines.next().unwrap();
+    let mut batches = [Batch::empty(); Week::MAX_BATCHES];
+    // Counted by hand: the count goes on after the last place, and is the list's, which `enumerate` would not hand out.
+    let mut n = 0;
+    for line in lines {
+        if n < Week::MAX_BATCHES {
+            batches[n] = batch_of(line);
         }
-        start = end;
-        i += 1;
+        n += 1;
     }
-    week.count = i;
-    week
+    Week {
+        opening: word_at(first, 1),
+        closing: word_at(first, 3),
+        count: n,
+        batches,
+    }
 }

@@ -1,15 +1,17 @@
--- Numbers in decimal: one digit more, how many there are at most, and that they are the digits that `io::decimal` writes.
-use Prim.Native.Nat.{ℕ, zero, suc, ◌-◌, ◌/◌, ◌%◌, ◌^◌, ◌≤◌, ◌<◌}
-use native.Mathlib.Nat.{mod-lt, div-lt_self, div-lt_iff_lt-mul, le-div_iff_mul-le, pow-suc, pow-le-pow_right}
+-- Numbers in decimal: one digit more, how many there are at most, and that std spells them so.
+use Prim.Native.Nat.{ℕ, zero, suc, ◌/◌, ◌%◌, ◌^◌, ◌≤◌, ◌<◌}
+use native.Mathlib.Nat.{mod-eq_of_lt, div-lt_self, div-lt_iff_lt-mul, pow-suc}
 use native.Mathlib.Decide.{dec_lt}
+use native.Mathlib.Numerals.{add-one}
 use native.Mathlib.Omega.{arith}
-use mathlib.Core.Path.{◌≡◌, refl, sym, ap, ap₂, ◌∙◌}
+use mathlib.Core.Path.{◌≡◌, refl, sym, ap}
 use mathlib.Core.Bool.{Bool, true, false, cond}
 use mathlib.Core.List.{List, [], ◌∷◌, ◌++◌}
 use lib.ListN.{length, length-append}
 use lib.Dec.{ltb}
 use borrow.Author.Tests.{lt-ltb, le-ltb, ltb-false}
-use Rattle.io.specs.Digits.{hex_digit_ascii, last_digits, IsDigitCount}
+use Rattle.std.proofs.lemmas.Fmt.{AppendsLastDigit, decimal_from_appends, length-decimal-le_succ}
+use Rattle.std.specs.Fmt.{decimal as std_decimal}
 use Rattle.text.specs.Decimal.{digit, spelt, decimal}
 
 -- the last digit
@@ -60,29 +62,15 @@ decimal_short (suc k) n below =
           (omega (arith, decimal_short k (n / 10) (tenth_below (suc k) n below)))
     ]
 
--- `io::decimal` writes a digit as it is written here
-glyph_digit : (n : ℕ) → hex_digit_ascii (n % 10) ≡ digit (n % 10)
-glyph_digit n = rw (lt-ltb (n % 10) 10 (mod-lt n (omega arith)))
+-- std's spelling of a number, by which the digits of a type are printed, is the one here
+printed_steps : AppendsLastDigit spelt
+unfolding spelt
+printed_steps =
+    record {
+      one = λ k n one. rw (lt-ltb n 10 one, mod-eq_of_lt one);
+      more = λ k n more. rw (le-ltb n 10 more);
+    }
 
--- and the fewest that hold the number
-pub fewest_decimal : (k n : ℕ) → IsDigitCount 10 1 n k → last_digits 10 k n ≡ decimal n
-fewest_decimal zero n h = absurd (omega (arith, h.0))
-fewest_decimal (suc zero) n h = ap (λ (d : ℕ). d ∷ []) (glyph_digit n) ∙ sym (decimal_one n h.1)
-fewest_decimal (suc (suc k)) n h =
-    ap₂ (λ (l : List ℕ) (d : ℕ). l ++ (d ∷ [])) (fewest_decimal (suc k) (n / 10) rest) (glyph_digit n)
-    ∙ sym (decimal_more n more)
-  where
-    least : 10 ^ suc k ≤ n
-    least = let e : suc (suc k) - 1 ≡ suc k = omega arith in rw e at (h.2 (omega arith))
-
-    more : 10 ≤ n
-    more = omega (arith, least, pow-le-pow_right {n = 10} (omega arith) {i = 1} {j = suc k} (omega arith))
-
-    rest : IsDigitCount 10 1 (n / 10) (suc k)
-    rest = (
-      omega arith,
-      tenth_below (suc k) n h.1,
-      λ two.
-          let e : suc k - 1 ≡ k = omega arith in
-          rw e ((le-div_iff_mul-le {k = 10} (omega arith)).1 (rw pow-suc at least)),
-    )
+pub printed : (n : ℕ) → n < 2 ^ 64 → std_decimal n ≡ decimal n
+unfolding decimal
+printed n fits = sym (decimal_from_appends spelt printed_steps (suc n) n fits (rw (← add-one n) (length-decimal-le_succ n fits)))

@@ -1,4 +1,3 @@
-pub mod Putting
 pub mod Decimals
 pub mod Numerals
 pub mod Spacing

@@ -1,11 +1,9 @@
--- Numbers in decimal, each after a space: one more of them, and how many bytes they are at most.
+-- Fields and numbers, each after a space: one more of them, and how many bytes they are at most.
 use Prim.Native.Nat.{ℕ, suc, ◌+◌, ◌*◌, ◌^◌, ◌≤◌, ◌<◌}
-use native.Mathlib.Numerals.{add-one}
 use native.Mathlib.Omega.{arith}
 use mathlib.Core.Path.{◌≡◌, refl, sym, ap, ◌∙◌}
-use mathlib.Core.List.{List, [], ◌∷◌, ◌++◌, map, map-append, append_assoc, append-nil}
-use lib.ListN.{length, get_or, take, drop, length-append, take-append-drop}
-use lib.Seq.{take-suc}
+use mathlib.Core.List.{List, [], ◌∷◌, ◌++◌, map, map-append, append_assoc}
+use lib.ListN.{length, length-append}
 use Rattle.arrays.specs.Text.{line_feed, space}
 use Rattle.text.specs.Decimal.{decimal}
 use Rattle.text.specs.Line.{spaced, rest_of}
@@ -23,25 +21,24 @@ spaced-append (x ∷ xs) ys =
 pub numbers-append : (xs ys : List ℕ) → numbers (xs ++ ys) ≡ numbers xs ++ numbers ys
 numbers-append xs ys = ap spaced (map-append decimal xs ys) ∙ spaced-append (map decimal xs) (map decimal ys)
 
-pub numbers_more : (ns : List ℕ) (i : ℕ) → i < length ns →
-    numbers (take (i + 1) ns) ≡ numbers (take i ns) ++ (space ∷ decimal (get_or ns i 0))
+-- where all fields have room, so has the first of those that are left
+pub field_room : {n : ℕ} (before : List ℕ) (all : List (List ℕ)) (text field : List ℕ) (fields : List (List ℕ)) →
+    text ++ spaced (field ∷ fields) ≡ before ++ spaced all → length before + length (spaced all) ≤ n →
+    length text + length (space ∷ field) ≤ n
 unfolding spaced
-numbers_more ns i more =
-    ap (λ (k : ℕ). numbers (take k ns)) (add-one i)
-    ∙ ap numbers (take-suc ns i 0 more)
-    ∙ numbers-append (take i ns) (get_or ns i 0 ∷ [])
-    ∙ ap (λ (l : List ℕ). numbers (take i ns) ++ l) (append-nil (space ∷ decimal (get_or ns i 0)))
-
--- the first of them are no longer than all
-pub numbers_front : (ns : List ℕ) (i : ℕ) → length (numbers (take i ns)) ≤ length (numbers ns)
-numbers_front ns i =
-    let split = numbers-append (take i ns) (drop i ns) in
+field_room before all text field fields left room =
     omega (
       arith,
-      ap (λ (l : List ℕ). length (numbers l)) (take-append-drop i ns),
-      ap length split,
-      length-append (numbers (take i ns)) (numbers (drop i ns)),
+      ap length left,
+      length-append before (spaced all),
+      length-append text ((space ∷ field) ++ spaced fields),
+      length-append (space ∷ field) (spaced fields),
     )
+
+-- and where a line has room, so has what follows its first field
+pub rest_room : {n width : ℕ} (before first text rest : List ℕ) → text ≡ before ++ first → length before + width ≤ n →
+    length first + length rest ≤ width → length text + length rest ≤ n
+rest_room before first text rest put room short = omega (arith, ap length put, length-append before first)
 
 -- each has at most k + 1 digits
 abbrev pub Below : ℕ → List ℕ → Type 0
@@ -67,3 +64,20 @@ rest_more field fields = append_assoc (space ∷ field) (spaced fields) (line_fe
 pub rest_none : rest_of [] ≡ line_feed ∷ []
 unfolding spaced
 rest_none = refl
+
+-- what follows "week": two numbers of five digits, and the line feed
+pub week_rest : (opening closing : ℕ) → opening < 2 ^ 16 → closing < 2 ^ 16 →
+    length (rest_of (map decimal (opening ∷ closing ∷ []))) ≤ 13
+week_rest opening closing o c = rest_short 4 (opening ∷ closing ∷ []) (omega arith, (omega arith, tt))
+
+-- what follows "refused": a number of three digits, two of twenty, and the line feed
+pub refusal_rest : (number place recipe : ℕ) → number < 2 ^ 8 → place < 2 ^ 64 → recipe < 2 ^ 64 →
+    length (rest_of (map decimal (number ∷ place ∷ recipe ∷ []))) ≤ 47
+refusal_rest number place recipe n p r =
+    let others = map decimal (place ∷ recipe ∷ []) in
+    rw (rest_more (decimal number) others, length-append (space ∷ decimal number) (rest_of others))
+    (omega (
+      arith,
+      decimal_short 2 number (omega arith),
+      rest_short 19 (place ∷ recipe ∷ []) (omega arith, (omega arith, tt)),
+    ))

@@ -1,5 +1,9 @@
-// Text: bytes and numbers put into it one after the other, and the lines that a report and an answer share.
+// Text in fixed memory: bytes and numbers put into it one after the other, and the lines that a report and an answer share.
 #![tactic(auto)]
 
 pub mod line;
+pub mod number;
 pub mod put;
+
+pub use number::Number;
+pub use put::Text;

@@ -1,57 +1,86 @@
-// Bytes and numbers, put into a lent text one after the other. Each function answers where the next part has its place.
-ghost use Rattle.std.specs.Prelude.{◌+◌, ◌≤◌, ◌∷◌, ◌++◌, map, length};
+// A text in fixed memory, written from left to right.
+ghost use Rattle.std.specs.Prelude.{◌≡◌, ◌+◌, ◌≤◌, [], ◌∷◌, ◌++◌, map, length};
 ghost use Rattle.arrays.specs.Text.{space};
 ghost use Rattle.text.specs.Decimal.{decimal};
 ghost use Rattle.text.specs.Line.{spaced};
-ghost use Rattle.text.specs.Contract.{Puts};
 
-// The bytes of a part.
-pub fn put(text: &mut [u8], at: usize, part: &[u8]) -> usize
-    requires { at + length part.now ≤ length text.old }
-    ensures { Puts text.old at part.now text.new result }
-{
-    for i in 0..part.len() {
-        text[at + i] = part[i];
+use crate::number::Number;
+use arrayvec::ArrayVec;
+use itoa::Buffer;
+use std::marker::Model;
+
+/// A text of at most `N` bytes. A clause sees it as the list of its bytes.
+#[derive(Drop)]
+pub struct Text<const N: usize> {
+    bytes: ArrayVec<u8, N>,
+}
+
+impl<const N: usize> Model for Text<N> {
+    ghost use Rattle.std.specs.Prelude.{ℕ, List};
+
+    ghost Value = { List ℕ };
+
+    ghost view = { λ text. text.bytes.items };
+}
+
+impl<const N: usize> Text<N> {
+    pub fn new() -> Self
+        ensures { result ≡ [] }
+    {
+        Text {
+            bytes: ArrayVec::new(),
+        }
     }
-    at + part.len()
-}
 
-// A number in decimal.
-pub fn put_decimal(text: &mut [u8], at: usize, n: u64) -> usize
-    requires { at + length (decimal n) ≤ length text.old }
-    ensures { Puts text.old at (decimal n) text.new result }
-{
-    let mut digits = [0u8; 20];
-    let len = io::decimal(n, &mut digits);
-    put(text, at, &digits[0..len])
-}
-
-// A space, and a number in decimal.
-fn put_number(text: &mut [u8], at: usize, n: u64) -> usize
-    requires { at + length (space ∷ decimal n) ≤ length text.old }
-    ensures { Puts text.old at (space ∷ decimal n) text.new result }
-{
-    let end = put(&mut *text, at, b" ");
-    put_decimal(text, end, n)
-}
-
-// A word, and a number after it.
-pub fn put_named(text: &mut [u8], at: usize, word: &[u8], n: u64) -> usize
-    requires { at + length (word.now ++ (space ∷ decimal n)) ≤ length text.old }
-    ensures { Puts text.old at (word.now ++ (space ∷ decimal n)) text.new result }
-{
-    let end = put(&mut *text, at, word);
-    put_number(text, end, n)
-}
-
-// Numbers, each after a space.
-pub fn put_numbers(text: &mut [u8], at: usize, numbers: &[u64]) -> usize
-    requires { at + length (spaced (map decimal numbers.now)) ≤ length text.old }
-    ensures { Puts text.old at (spaced (map decimal numbers.now)) text.new result }
-{
-    let mut end = at;
-    for i in 0..numbers.len() {
-        end = put_number(&mut *text, end, numbers[i]);
+    pub fn as_bytes(&self) -> &[u8]
+        ensures bytes { result.now ≡ self.now }
+        ensures fits { length result.now ≤ N }
+    {
+        self.bytes.as_slice()
     }
-    end
+
+    // The bytes of a part.
+    pub fn put(&mut self, part: &[u8])
+        requires { length self.old + length part.now ≤ N }
+        ensures { self.new ≡ self.old ++ part.now }
+    {
+        self.bytes.try_extend_from_slice(part).unwrap();
+    }
+
+    // A number in decimal.
+    pub fn put_decimal<I: Number>(&mut self, n: I)
+        requires { length self.old + length (decimal (I.value n)) ≤ N }
+        ensures { self.new ≡ self.old ++ decimal (I.value n) }
+    {
+        self.put(n.digits(&mut Buffer::new()).as_bytes());
+    }
+
+    // A space, and a number in decimal.
+    fn put_number<I: Number>(&mut self, n: I)
+        requires { length self.old + length (space ∷ decimal (I.value n)) ≤ N }
+        ensures { self.new ≡ self.old ++ (space ∷ decimal (I.value n)) }
+    {
+        self.put(b" ");
+        self.put_decimal(n);
+    }
+
+    // A word, and a number after it.
+    pub fn put_named<I: Number>(&mut self, word: &[u8], n: I)
+        requires { length self.old + length (word.now ++ (space ∷ decimal (I.value n))) ≤ N }
+        ensures { self.new ≡ self.old ++ (word.now ++ (space ∷ decimal (I.value n))) }
+    {
+        self.put(word);
+        self.put_number(n);
+    }
+
+    // Numbers, each after a space.
+    #[tactic(auto, unfolding(crate::specs::Line::spaced))]
+    pub fn put_numbers<I: Number>(&mut self, numbers: &[I])
+        requires { length self.old + length (spaced (map (λ n. decimal (I.value n)) numbers.now)) ≤ N }
+        ensures { self.new ≡ self.old ++ spaced (map (λ n. decimal (I.value n)) numbers.now) }
+    {
+        for &n in numbers {
+            self.put_number(n);
+        }
+    }
 }

@@ -1,4 +1,5 @@
 pub mod First
+pub mod Faults
 pub mod Passes
 pub mod Each
 pub mod Answering
@@ -10,5 +11,5 @@ pub mod Before
 pub mod Ordering
 pub mod Without
 pub mod Writing
-pub mod Opened
+pub mod Placed
 pub mod LeftOut

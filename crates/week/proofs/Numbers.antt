@@ -4,12 +4,14 @@ use mathlib.Core.Path.{◌≡◌, refl}
 use mathlib.Core.Logic.Iff
 use mathlib.Core.Logic.{◌↔◌}
 use mathlib.Core.Bool.{Bool, true, false, true≢false}
-use mathlib.Core.List.{List}
+use mathlib.Core.List.{List, [], ◌∷◌}
 use lib.ListN.{length}
+use lib.Dec.{eqb}
+use Rattle.std.specs.List.{list_any}
 use Rattle.arrays.specs.Each.{All}
 use Rattle.arrays.specs.Rearranged.{Perm}
 use Rattle.arrays.proofs.Each.{none_below}
-use Rattle.arrays.proofs.Tests.{same_fails}
+use Rattle.arrays.proofs.Tests.{same_fails, or_fails}
 use Rattle.arrays.proofs.Pairs.{all_index}
 use Rattle.arrays.proofs.Rearranges.{perm_sym, perm_all}
 use Rattle.week.specs.declared.record.Batch.{Batch}
@@ -39,3 +41,12 @@ module _ (number : ℕ) where
   held_perm {bs} {cs} p =
       fail_together _ _ (λ z. (held_none cs).1 (perm_all _ p ((held_none bs).0 z)))
       (λ z. (held_none bs).1 (perm_all _ (perm_sym p) ((held_none cs).0 z)))
+
+  -- a slice's `any` tells it, batch by batch
+  any_none : (bs : List Batch) → (list_any (λ b. eqb b.number number) bs ≡ false) ↔ All (λ b. b.number ≡ number → ⊥) bs
+  any_none [] = (λ _. tt, λ _. refl)
+  any_none (b ∷ bs) = or_fails (eqb b.number number) _ (same_fails b.number number) (any_none bs)
+
+  pub held_any : (bs : List Batch) → list_any (λ b. eqb b.number number) bs ≡ is_held number bs
+  held_any bs =
+      fail_together _ _ (λ z. (held_none bs).1 ((any_none bs).0 z)) (λ z. (any_none bs).1 ((held_none bs).0 z))

@@ -6,7 +6,7 @@ use mathlib.Core.List.{List, ◌++◌}
 use lib.ListN.{length, take, drop, length-take}
 use lib.Seq.{length-take-le, take-append_seam, drop-append-add}
 use Rattle.arrays.specs.Made.{padded}
-use Rattle.arrays.proofs.Places.{length_padded, drop-replicate, take_within}
+use Rattle.arrays.proofs.Places.{length_padded, drop-replicate}
 use Rattle.week.specs.declared.record.Batch.{Batch}
 use Rattle.week.specs.declared.record.Week.{Week}
 use Rattle.week.specs.Record.{max_batches, empty_batch}
@@ -19,12 +19,8 @@ pub batches_counted : (w : Week) → length w.batches ≡ max_batches → w.coun
 batches_counted w long few = length-take-le w.count w.batches (omega arith)
 
 -- and has no more of them than its array
-module _ (w : Week) (long : length w.batches ≡ max_batches) where
-  pub batches_placed : take (min w.count max_batches) w.batches ≡ batches_of w
-  batches_placed = take_within w.count max_batches w.batches long
-
-  pub placed_counted : length (batches_of w) ≡ min w.count max_batches
-  placed_counted = omega (arith, length-take w.count w.batches)
+pub placed_counted : (w : Week) → length w.batches ≡ max_batches → length (batches_of w) ≡ min w.count max_batches
+placed_counted w long = omega (arith, length-take w.count w.batches)
 
 -- a list of a week that counts some batches, with these and empty ones in its array, is written from them
 pub is_written : {t c : ℕ} {w : Week} (bs : List Batch) → w.opening ≡ t → w.closing ≡ c → w.count ≡ length bs →

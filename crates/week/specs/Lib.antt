@@ -3,4 +3,5 @@ pub mod Order
 pub mod Numbers
 pub mod Written
 pub mod Refusal
+pub mod Fault
 pub mod RefusalOrder

@@ -1,17 +1,18 @@
 // The records that the desk hands in, and their limits.
 ghost use Rattle.std.specs.Prelude.{min, ◌≡◌};
 ghost use Rattle.week.specs.Record.{max_batches, empty_batch, empty_week, ready_of, span_of};
+ghost use Rattle.week.specs.Written.{batches_of};
 
 use jobs::model::{Job, JobList};
 
 // Minutes on the station, and a worth.
-#[derive(Clone, Copy)]
+#[derive(Clone, Copy, Debug, PartialEq, Eq)]
 pub struct Recipe {
     pub cost: u16,
     pub worth: u16,
 }
 
-#[derive(Clone, Copy)]
+#[derive(Clone, Copy, Debug, PartialEq, Eq)]
 pub struct Batch {
     pub number: u16,
     pub arrival: u16,
@@ -41,16 +42,12 @@ impl Batch {
     pub fn ready(self, opening: u16) -> u16
         ensures { result ≡ ready_of opening self }
     {
-        if opening < self.arrival {
-            self.arrival
-        } else {
-            opening
-        }
+        opening.max(self.arrival)
     }
 }
 
 // A week's list: its first `count` batches, in list order.
-#[derive(Clone, Copy)]
+#[derive(Clone, Copy, Debug, PartialEq, Eq)]
 pub struct Week {
     pub opening: u16,
     pub closing: u16,
@@ -80,19 +77,20 @@ impl Week {
     pub fn places(n: usize) -> usize
         ensures { result ≡ min n max_batches }
     {
-        if Week::MAX_BATCHES < n {
-            return Week::MAX_BATCHES;
-        }
-        n
+        n.min(Week::MAX_BATCHES)
+    }
+
+    // Its batches: as many as it counts, and no more than it has places for.
+    pub fn listed(&self) -> &[Batch]
+        ensures { result.now ≡ batches_of self.now }
+    {
+        &self.batches[..Week::places(self.count)]
     }
 
     // The minutes from the opening to the close, the close not counted; none where it closes before it opens.
     pub fn minutes(self) -> usize
         ensures { result ≡ span_of self }
     {
-        if self.closing < self.opening {
-            return 0;
-        }
-        (self.closing - self.opening) as usize
+        usize::from(self.closing.saturating_sub(self.opening))
     }
 }

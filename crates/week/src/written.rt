@@ -12,14 +12,15 @@ use crate::record::{Batch, Week};
 pub fn fresh(week: Week) -> Week
     ensures { result ≡ written week.opening week.closing (batches_of week) }
 {
-    let n = Week::places(week.count);
-    let mut out = Week::empty(week.opening, week.closing);
-    for i in 0..n {
-        let batch = week.batches[i];
-        out.batches[i] = batch;
+    let listed = week.listed();
+    let n = listed.len();
+    let mut batches = [Batch::empty(); Week::MAX_BATCHES];
+    batches[..n].copy_from_slice(listed);
+    Week {
+        count: n,
+        batches,
+        ..week
     }
-    out.count = n;
-    out
 }
 
 // One more, put in order among those that stand in order.
@@ -28,14 +29,10 @@ pub fn with_batch(week: Week, batch: Batch) -> Week
     ensures { result ≡ written week.opening week.closing (insert_in week.opening batch (batches_of week)) }
 {
     let n = week.count;
-    let same = fresh(week);
-    let old = same.batches;
-    let batches = insert(week.opening, batch, n, old);
     Week {
-        opening: week.opening,
-        closing: week.closing,
         count: n + 1,
-        batches,
+        batches: insert(week.opening, batch, n, fresh(week).batches),
+        ..week
     }
 }
 
@@ -43,16 +40,17 @@ pub fn with_batch(week: Week, batch: Batch) -> Week
 pub fn leave_out(week: Week, number: u16) -> Week
     ensures { result ≡ written week.opening week.closing (without number (batches_of week)) }
 {
-    let n = Week::places(week.count);
-    let mut left = Week::empty(week.opening, week.closing);
+    let mut batches = [Batch::empty(); Week::MAX_BATCHES];
     let mut count = 0;
-    for i in 0..n {
-        let batch = week.batches[i];
+    for batch in week.listed() {
         if batch.number != number {
-            left.batches[count] = batch;
+            batches[count] = *batch;
             count += 1;
         }
     }
-    left.count = count;
-    left
+    Week {
+        count,
+        batches,
+        ..week
+    }
 }

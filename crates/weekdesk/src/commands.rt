@@ -1,186 +1,94 @@
-// The commands, each a function of its own.
-ghost use Rattle.io.specs.Counts.{IsPrefixLen};
-
+// The commands: those that answer, each a function of its own, and which of all a line is.
 use crate::desk::Desk;
-use crate::help::write_help;
-use answer::operation::{
-    AnswerText, check_text, choose_text, no_command_text, ok_text, plan_text, run_text,
-};
+use crate::help::HELP;
+use answer::operation::{check_text, choose_text, no_command_text, ok_text, plan_text, run_text};
 use book::add::add;
 use book::book::{Answered, Book};
 use book::open::open;
 use book::withdraw::withdraw;
-use command::command::{Choice, Kind};
+use command::command::{Choice, Command};
 use command::command_of;
 use draft::list::list_text;
 use draft::record::Draft;
 use draft::sheet::sheet_text;
-use lent::fill::fill;
 use lent::shown::shown_text;
-use week::record::Batch;
+use std::io;
 
-// How many bytes of a slice a size is: no more than there are.
-fn within(size: usize, bytes: &[u8]) -> usize
-    ensures { IsPrefixLen result bytes.now }
-{
-    if size < bytes.len() {
-        return size;
-    }
-    bytes.len()
+fn choose(rt: &impl Print, desk: &mut Desk) -> io::Result<()> {
+    let text = choose_text(desk.draft.week(), desk.table.lent_mut());
+    rt.write_all(text.as_bytes())
 }
 
-fn write(rt: &impl Print, desk: Desk, bytes: &[u8]) -> Desk {
-    desk.after_writing(rt.write_all(bytes).is_ok())
+fn check(rt: &impl Print, desk: &Desk, choice: Choice) -> io::Result<()> {
+    let text = check_text(desk.draft.week(), &choice.recipes);
+    rt.write_all(text.as_bytes())
 }
 
-fn say(rt: &impl Print, desk: Desk, text: AnswerText) -> Desk
-    requires { IsPrefixLen text.len text.bytes }
-{
-    let bytes = text.bytes;
-    let len = text.len;
-    write(rt, desk, &bytes[0..len])
-}
-
-fn no_command(rt: &impl Print, desk: Desk) -> Desk {
-    say(rt, desk, no_command_text(desk.lines))
-}
-
-fn week(mut desk: Desk, opening: u16, closing: u16) -> Desk {
-    desk.draft = Draft::empty(opening, closing);
-    desk
-}
-
-fn batch(mut desk: Desk, batch: Batch) -> Desk {
-    let draft = desk.draft;
-    desk.draft = draft.with_batch(batch);
-    desk
-}
-
-fn lend_table(mut desk: Desk, table: &mut [u8], size: usize, value: u8) -> Desk {
-    let n = within(size, table);
-    fill(&mut table[0..n], value);
-    desk.table = n;
-    desk
-}
-
-fn lend_log(mut desk: Desk, log: &mut [u8], size: usize, value: u8) -> Desk {
-    let n = within(size, log);
-    fill(&mut log[0..n], value);
-    desk.log = n;
-    desk
-}
-
-fn choose(rt: &impl Print, desk: Desk, table: &mut [u8]) -> Desk {
-    let draft = desk.draft;
-    let n = within(desk.table, table);
-    let text = choose_text(draft.week(), &mut table[0..n]);
-    say(rt, desk, text)
-}
-
-fn check(rt: &impl Print, desk: Desk, choice: Choice) -> Desk {
-    let draft = desk.draft;
-    let recipes = choice.recipes;
-    let n = within(choice.count, &recipes);
-    let text = check_text(draft.week(), &recipes[0..n]);
-    say(rt, desk, text)
-}
-
-fn run(rt: &impl Print, desk: Desk, choice: Choice, log: &mut [u8]) -> Desk {
-    let draft = desk.draft;
-    let recipes = choice.recipes;
-    let n = within(choice.count, &recipes);
-    let m = within(desk.log, log);
-    let text = run_text(draft.week(), &recipes[0..n], &mut log[0..m]);
-    say(rt, desk, text)
+fn run(rt: &impl Print, desk: &mut Desk, choice: Choice) -> io::Result<()> {
+    let text = run_text(desk.draft.week(), &choice.recipes, desk.log.lent_mut());
+    rt.write_all(text.as_bytes())
 }
 
 // `show table`, `show log`: the word, then every byte lent.
-fn show(rt: &impl Print, desk: Desk, word: &[u8], lent: &[u8], size: usize) -> Desk {
-    let n = within(size, lent);
-    let text = shown_text(&lent[0..n]);
-    let bytes = text.bytes;
-    let len = text.len;
-    if rt.write_all(word).is_err() {
-        return desk.after_writing(false);
-    }
-    write(rt, desk, &bytes[0..len])
+fn show(rt: &impl Print, word: &[u8], lent: &[u8]) -> io::Result<()> {
+    let text = shown_text(lent);
+    rt.write_all(word)?;
+    rt.write_all(text.as_bytes())
 }
 
-fn list(rt: &impl Print, desk: Desk, draft: Draft) -> Desk {
-    let text = list_text(draft);
-    let bytes = text.bytes;
-    let len = text.len;
-    write(rt, desk, &bytes[0..len])
+fn list(rt: &impl Print, draft: Draft) -> io::Result<()> {
+    rt.write_all(list_text(draft).as_bytes())
 }
 
-fn sheet(rt: &impl Print, desk: Desk) -> Desk {
-    let text = sheet_text(desk.draft);
-    let bytes = text.bytes;
-    let len = text.len;
-    write(rt, desk, &bytes[0..len])
+fn sheet(rt: &impl Print, draft: Draft) -> io::Result<()> {
+    rt.write_all(sheet_text(draft).as_bytes())
 }
 
 // `open`, `add`, `withdraw`: the book that the call hands back, and `ok` or the refusal.
-fn keep(rt: &impl Print, mut desk: Desk, answered: Answered) -> Desk {
-    let book = answered.book;
-    desk.book = book;
-    say(rt, desk, ok_text(answered.refusal))
+fn keep(rt: &impl Print, desk: &mut Desk, answered: Answered) -> io::Result<()> {
+    desk.book = answered.book;
+    rt.write_all(ok_text(answered.result).as_bytes())
 }
 
 // `plan`: as `choose`, of the list that the book holds.
-fn plan(rt: &impl Print, mut desk: Desk, table: &mut [u8]) -> Desk {
-    let book = desk.book;
-    let list = book.list;
-    let n = within(desk.table, table);
-    let planned = book::plan::plan(book, &mut table[0..n]);
-    let after = planned.book;
-    desk.book = after;
-    say(rt, desk, plan_text(planned.plan, list.count))
-}
-
-// `hold`: ‘the book now holds the list written down, as it stands’.
-fn hold(mut desk: Desk) -> Desk {
-    let draft = desk.draft;
-    let book = Book { list: draft.week() };
-    desk.book = book;
-    desk
-}
-
-// `book`: ‘the book's list as `list` prints one’.
-fn print_book(rt: &impl Print, desk: Desk) -> Desk {
-    let book = desk.book;
-    list(rt, desk, Draft::of_week(book.list))
-}
-
-fn help(rt: &impl Print, desk: Desk) -> Desk {
-    desk.after_writing(write_help(rt))
+fn plan(rt: &impl Print, desk: &mut Desk) -> io::Result<()> {
+    let count = desk.book.list.count;
+    let planned = book::plan::plan(desk.book, desk.table.lent_mut());
+    desk.book = planned.book;
+    rt.write_all(plan_text(planned.plan, count).as_bytes())
 }
 
 // The command that the line is.
-pub(crate) fn obey(rt: &impl Print, before: Desk, table: &mut [u8], log: &mut [u8]) -> Desk {
-    let command = command_of(before.line);
-    let desk = before.after_line();
-    let kind = command.kind;
-    match kind {
-        Kind::Nothing => desk,
-        Kind::Unknown => no_command(rt, desk),
-        Kind::Week { opening, closing } => week(desk, opening, closing),
-        Kind::Batch => batch(desk, command.batch),
-        Kind::Table { size, value } => lend_table(desk, table, size, value),
-        Kind::Log { size, value } => lend_log(desk, log, size, value),
-        Kind::Choose => choose(rt, desk, table),
-        Kind::Check => check(rt, desk, command.choice),
-        Kind::Run => run(rt, desk, command.choice, log),
-        Kind::ShowTable => show(rt, desk, b"table", table, desk.table),
-        Kind::ShowLog => show(rt, desk, b"log", log, desk.log),
-        Kind::List => list(rt, desk, desk.draft),
-        Kind::Sheet => sheet(rt, desk),
-        Kind::Open { opening, closing } => keep(rt, desk, open(opening, closing)),
-        Kind::Add => keep(rt, desk, add(desk.book, command.batch)),
-        Kind::Withdraw { number } => keep(rt, desk, withdraw(desk.book, number)),
-        Kind::Plan => plan(rt, desk, table),
-        Kind::Book => print_book(rt, desk),
-        Kind::Hold => hold(desk),
-        Kind::Help => help(rt, desk),
+pub(crate) fn obey(rt: &impl Print, desk: &mut Desk) -> io::Result<()> {
+    let command = command_of(&desk.line);
+    desk.end_line();
+    let Some(command) = command else {
+        return rt.write_all(no_command_text(desk.lines).as_bytes());
+    };
+    match command {
+        Command::Nothing => {}
+        Command::Week { opening, closing } => desk.draft = Draft::empty(opening, closing),
+        Command::Batch(batch) => desk.draft = desk.draft.with_batch(batch),
+        Command::Table { size, value } => desk.table.lend(size, value),
+        Command::Log { size, value } => desk.log.lend(size, value),
+        Command::Choose => choose(rt, desk)?,
+        Command::Check(choice) => check(rt, desk, choice)?,
+        Command::Run(choice) => run(rt, desk, choice)?,
+        Command::ShowTable => show(rt, b"table", desk.table.lent())?,
+        Command::ShowLog => show(rt, b"log", desk.log.lent())?,
+        Command::List => list(rt, desk.draft)?,
+        Command::Sheet => sheet(rt, desk.draft)?,
+        Command::Open { opening, closing } => keep(rt, desk, open(opening, closing))?,
+        Command::Add(batch) => keep(rt, desk, add(desk.book, batch))?,
+        Command::Withdraw { number } => keep(rt, desk, withdraw(desk.book, number))?,
+        Command::Plan => plan(rt, desk)?,
+        // ‘the book's list as `list` prints one’
+        Command::Book => list(rt, Draft::of_week(desk.book.list))?,
+        // ‘the book now holds the list written down, as it stands’
+        Command::Hold => desk.book = Book {
+            list: desk.draft.week(),
+        },
+        Command::Help => rt.write_all(HELP)?,
     }
+    Ok(())
 }

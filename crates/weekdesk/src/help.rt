@@ -1,8 +1,6 @@
-// What `help` answers.
-// Each command in a line.
-pub(crate) fn write_help(rt: &impl Print) -> bool {
-    rt.write_all(
-        b"week T C: a new list, of no batches, from the opening minute T to the closing minute C
+// What `help` answers: each command in a line.
+pub(crate) const HELP: &[u8] =
+    b"week T C: a new list, of no batches, from the opening minute T to the closing minute C
 batch NUMBER R D COST WORTH COST WORTH ..: one batch more, arriving at R and due at D, with its recipes
 table SIZE V: a picks table of SIZE bytes, each V, or 0 where V is left out
 log SIZE V: a log of SIZE bytes, likewise
@@ -19,7 +17,4 @@ plan: as choose, of the book
 book: the book's list, as list prints one
 hold: the book now holds the list written down, as it stands
 help: these lines
-",
-    )
-    .is_ok()
-}
+";

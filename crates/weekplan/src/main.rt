@@ -10,16 +10,11 @@ use sheet::read::MAX_BYTES;
 fn main(rt: HostRuntime) {
     // One byte more than the longest sheet that is read, so that a longer one is told from it.
     let mut sheet = [0; MAX_BYTES + 1];
-    let input = read_sheet(&mut rt.reader(), &mut sheet);
-    if input.failed {
+    let Ok(len) = read_sheet(&mut rt.reader(), &mut sheet) else {
         let _ = rt.eprint("weekplan: the sheet could not be read\n");
         return;
-    }
-    let len = input.len;
-    let text = report(&sheet[0..len]);
-    let bytes = text.bytes;
-    let end = text.len;
-    if rt.write_all(&bytes[0..end]).is_err() {
+    };
+    if rt.write_all(report(&sheet[..len]).as_bytes()).is_err() {
         let _ = rt.eprint("weekplan: the report could not be written\n");
     }
 }

@@ -1,11 +1,13 @@
 -- The control program's call: what it answers, and what it leaves in the picks table and in the recipe buffer, on every sheet and
 -- every size of the two.
-use Rattle.std.specs.Prelude.{ℕ, ◌≡◌, ◌⊎◌, List, [], ◌∷◌, ◌++◌, length, drop, ℤ, pos, neg_ℤ}
+use Rattle.std.specs.Prelude.{ℕ, ◌≡◌, ◌⊎◌, List, [], ◌∷◌, ◌++◌, length, drop, ℤ, pos, neg_ℤ, Result, Ok, Err}
 use Rattle.jobs.specs.Choice.{total}
 use Rattle.jobs.specs.Best.{Chosen}
 use Rattle.week.specs.declared.record.Week.{Week}
+use Rattle.week.specs.declared.refusal.Fault.{Fault}
 use Rattle.week.specs.declared.refusal.Refusal.{Refusal}
 use Rattle.week.specs.Refusal.{accepted, first_of, short_fault, unless_refused, answer_by}
+use Rattle.week.specs.Fault.{number_of}
 use Rattle.planner.specs.Job.{week_jobs, week_choice, list_choice}
 use Rattle.planner.specs.Choose.{table_fault, plan_fault, week_best, plan_choice, choose_answer, table_after}
 use Rattle.planner.specs.Run.{log_after, LongLog, InTime}
@@ -41,6 +43,11 @@ minus_of number = neg_ℤ (pos number)
 unfoldable pub call_answer : List ℕ → (table_size buffer_size : ℕ) → ℤ
 call_answer sheet table_size buffer_size =
     answer_by (call_fault sheet table_size buffer_size) (λ r. minus_of r.number) (pos (choose_answer (sheet_week sheet) table_size).total)
+
+-- the same answer, of what the code hands back
+abbrev pub answered : Result ℕ Fault → ℤ
+answered (Ok total) = pos total
+answered (Err fault) = minus_of (number_of fault.reason)
 
 -- "Choosing fills a lent table of bytes." "The table is filled as well when refusal 14 is given." "Only 14 alters lent memory (the
 -- picks table)."

@@ -1,4 +1,5 @@
-pub mod Pieces
+pub mod Places
+pub mod Feeds
 pub mod Held
 pub mod Words
 pub mod NextWords

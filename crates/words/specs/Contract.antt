@@ -1,28 +1,16 @@
--- What the functions that find a word ask and answer.
-use Rattle.std.specs.Prelude.{ℕ, ◌-◌, ◌≤◌, ◌<◌, ◌≡◌, List, [], ◌∷◌, length, get_or, take, drop}
-use Rattle.arrays.specs.Text.{space}
-use Rattle.words.specs.Word.{words_of, Unbroken}
+-- What the function that finds a word answers.
+use Rattle.std.specs.Prelude.{ℕ, ◌+◌, ◌-◌, ◌≤◌, ◌≡◌, List, ◌∷◌, length, take, drop}
+use Rattle.words.specs.declared.word.Word.{Word}
+use Rattle.words.specs.Word.{words_of, IsWord}
 
 -- the bytes of a line from a start up to an end
 abbrev pub part_of : List ℕ → ℕ → ℕ → List ℕ
 part_of line start end = take (end - start) (drop start line)
 
--- from `at` on there are spaces up to `start`, where a word starts or the line ends
-pub record WordStart (line : List ℕ) (at start : ℕ) : Type 0 where
-  pub within : start ≤ length line
-  pub skipped : words_of (drop at line) ≡ words_of (drop start line)
-  pub opened : start < length line → get_or line start 0 ≡ space → ⊥
-
--- from `start` on there is no space up to `end`, where one stands or the line ends
-pub record WordEnd (line : List ℕ) (start end : ℕ) : Type 0 where
-  pub forward : start ≤ end
-  pub within : end ≤ length line
-  pub whole : Unbroken (part_of line start end)
-  pub closed : end < length line → get_or line end 0 ≡ space
-
--- the first word from `at` on starts at `start` and ends before `end`; none is left where they are the same
-pub record NextWord (line : List ℕ) (at start end : ℕ) : Type 0 where
-  pub forward : start ≤ end
-  pub within : end ≤ length line
-  pub left : start ≡ end → words_of (drop at line) ≡ []
-  pub first : start < end → words_of (drop at line) ≡ part_of line start end ∷ words_of (drop end line)
+-- the first word from `at` on, which stands on the line up to its end, and after which the other words stand
+pub record IsNext (line : List ℕ) (at : ℕ) (word : Word) : Type 0 where
+  pub is : IsWord word.bytes.now
+  pub forward : at + length word.bytes.now ≤ word.end
+  pub within : word.end ≤ length line
+  pub taken : word.bytes.now ≡ part_of line (word.end - length word.bytes.now) word.end
+  pub first : words_of (drop at line) ≡ word.bytes.now ∷ words_of (drop word.end line)

@@ -1,8 +1,6 @@
 -- Words that are numbers: docs/WEEKDESK.md, ‘Lines’: ‘A number is one to five decimal digits, at most 65,535.’
-use Rattle.std.specs.Prelude.{ℕ, Bool, true, cond, ◌&&◌, List, [], ◌∷◌, length, leb}
+use Rattle.std.specs.Prelude.{ℕ, Bool, true, cond, ◌&&◌, Option, None, Some, List, [], ◌∷◌, length, leb}
 use Rattle.text.specs.Decimal.{digit, value_after}
-use Rattle.words.specs.declared.number.Number.{Number}
-use Rattle.words.specs.declared.number.Number.TheVariants.{Value, NotOne}
 
 -- the most digits, and the greatest number
 abbrev pub max_digits : ℕ
@@ -21,5 +19,5 @@ are_digits (b ∷ bs) = is_digit b && are_digits bs
 unfoldable pub is_number : List ℕ → Bool
 is_number word = leb 1 (length word) && leb (length word) max_digits && are_digits word && leb (value_after 0 word) max_number
 
-unfoldable pub number_of : List ℕ → Number
-number_of word = cond (is_number word) (Value (value_after 0 word)) NotOne
+unfoldable pub number_of : List ℕ → Option ℕ
+number_of word = cond (is_number word) (Some (value_after 0 word)) None

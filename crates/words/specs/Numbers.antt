@@ -1,5 +1,5 @@
 -- The numbers that words are, all of them or none: docs/WEEKDESK.md, ‘Lines’.
-use Rattle.std.specs.Prelude.{ℕ, Bool, true, false, cond, ◌&&◌, List, [], ◌∷◌, map, length, take, replicate}
+use Rattle.std.specs.Prelude.{ℕ, Bool, true, cond, ◌&&◌, Option, None, Some, List, [], ◌∷◌, map, length, take}
 use Rattle.arrays.specs.Made.{padded}
 use Rattle.text.specs.Decimal.{value_after}
 use Rattle.words.specs.declared.numbers.Numbers.{Numbers}
@@ -9,15 +9,12 @@ use Rattle.words.specs.Number.{is_number}
 abbrev pub max_kept : ℕ
 max_kept = 255
 
-abbrev pub no_numbers : Numbers
-no_numbers = record { valid = false; count = 0; values = replicate max_kept 0 }
-
 unfoldable pub are_numbers : List (List ℕ) → Bool
 are_numbers [] = true
 are_numbers (word ∷ words) = is_number word && are_numbers words
 
-unfoldable pub numbers_of : List (List ℕ) → Numbers
+unfoldable pub numbers_of : List (List ℕ) → Option Numbers
 numbers_of words =
     cond (are_numbers words)
-    (record { valid = true; count = length words; values = padded max_kept 0 (map (value_after 0) (take max_kept words)) })
-    no_numbers
+    (Some (record { count = length words; values = padded max_kept 0 (map (value_after 0) (take max_kept words)) }))
+    None

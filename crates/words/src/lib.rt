@@ -4,4 +4,5 @@
 pub mod line;
 pub mod number;
 pub mod numbers;
+mod place;
 pub mod word;

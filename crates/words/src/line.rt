@@ -1,6 +1,9 @@
 // Lines that come in pieces of any size.
 ghost use Rattle.std.specs.Prelude.{◌≡◌};
-ghost use Rattle.words.specs.Line.{no_line, extended_by};
+ghost use Rattle.words.specs.Line.{no_line, with_bytes, extended_by};
+
+use crate::place::first_place;
+use arrayvec::ArrayVec;
 
 pub const LINE_FEED: u8 = b'\n';
 
@@ -11,10 +14,9 @@ pub const MAX_LINE: usize = 4096;
 const HELD: usize = MAX_LINE + 1;
 
 // The first bytes of a line, as far as they have come.
-#[derive(Clone, Copy)]
+#[derive(Drop)]
 pub struct Line {
-    pub bytes: [u8; HELD],
-    pub len: usize,
+    pub bytes: ArrayVec<u8, HELD>,
 }
 
 impl Line {
@@ -22,45 +24,40 @@ impl Line {
         ensures { result ≡ no_line }
     {
         Line {
-            bytes: [0; HELD],
-            len: 0,
+            bytes: ArrayVec::new(),
         }
+    }
+
+    // With as many more bytes as there is room for.
+    fn with_bytes(mut self, bytes: &[u8]) -> Line
+        ensures { result ≡ with_bytes self bytes.now }
+    {
+        let fits = bytes.len().min(self.bytes.remaining_capacity());
+        let _ = self.bytes.try_extend_from_slice(&bytes[..fits]);
+        self
     }
 }
 
-// A line after more of it has come, where the next one starts, and whether this one has ended.
-#[derive(Clone, Copy)]
+// A line after more of it has come, and where the next one starts if this one has ended.
+#[derive(Drop)]
 pub struct Extension {
     pub line: Line,
-    pub next: usize,
-    pub ended: bool,
+    pub next: Option<usize>,
 }
 
 // A line with the bytes of a piece from `from` on, up to the line feed that ends it or the end of the piece.
 pub fn extended(line: Line, piece: &[u8], from: usize) -> Extension
     ensures { result ≡ extended_by line piece.now from }
 {
-    let mut bytes = line.bytes;
-    let mut len = line.len;
-    let mut i = from;
-    while i < piece.len() {
-        let b = piece[i];
-        i += 1;
-        if b == LINE_FEED {
-            return Extension {
-                line: Line { bytes, len },
-                next: i,
-                ended: true,
-            };
-        }
-        if len < HELD {
-            bytes[len] = b;
-            len += 1;
-        }
-    }
-    Extension {
-        line: Line { bytes, len },
-        next: i,
-        ended: false,
+    let rest = &piece[from.min(piece.len())..];
+    match first_place(LINE_FEED, rest) {
+        Some(len) => Extension {
+            line: line.with_bytes(&rest[..len]),
+            next: Some(from + len + 1),
+        },
+        None => Extension {
+            line: line.with_bytes(rest),
+            next: None,
+        },
     }
 }

@@ -2,35 +2,22 @@
 ghost use Rattle.std.specs.Prelude.{◌≡◌};
 ghost use Rattle.words.specs.Number.{number_of};
 
-// The most digits of a number, and the greatest number.
+// The most digits of a number.
 const MAX_DIGITS: usize = 5;
 
-const MAX_NUMBER: u32 = 65535;
-
-// What a word is: a number, or none.
-#[derive(Clone, Copy)]
-pub enum Number {
-    Value(u16),
-    NotOne,
-}
-
 // ‘A number is one to five decimal digits, at most 65,535.’
-pub fn number_of(word: &[u8]) -> Number
+pub fn number_of(word: &[u8]) -> Option<u16>
     ensures { result ≡ number_of word.now }
 {
-    if word.len() == 0 || MAX_DIGITS < word.len() {
-        return Number::NotOne;
+    if word.is_empty() || MAX_DIGITS < word.len() {
+        return None;
     }
     let mut value: u32 = 0;
-    for i in 0..word.len() {
-        let b = word[i];
-        if b < b'0' || b'9' < b {
-            return Number::NotOne;
+    for &b in word {
+        if !b.is_ascii_digit() {
+            return None;
         }
-        value = value * 10 + (b - b'0') as u32;
+        value = value * 10 + u32::from(b - b'0');
     }
-    if MAX_NUMBER < value {
-        return Number::NotOne;
-    }
-    Number::Value(value as u16)
+    u16::try_from(value).ok()
 }

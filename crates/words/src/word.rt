@@ -1,46 +1,38 @@
 // The words of a line.
-ghost use Rattle.std.specs.Prelude.{◌≤◌, length};
-ghost use Rattle.words.specs.Contract.{WordStart, WordEnd, NextWord};
+ghost use Rattle.std.specs.Prelude.{◌≡◌, ◌==◌, not, position, IfSome, IfNone, [], drop};
+ghost use Rattle.arrays.specs.Text.{space};
+ghost use Rattle.words.specs.Word.{words_of};
+ghost use Rattle.words.specs.Contract.{IsNext};
+
+use crate::place::first_place;
 
 const SPACE: u8 = b' ';
 
-// Where a word starts, and where it ends; both the line's end where there is none.
+// A word of a line, and where on the line it ends.
 #[derive(Clone, Copy)]
-pub struct Word {
-    pub start: usize,
+pub struct Word<'a> {
+    pub bytes: &'a [u8],
     pub end: usize,
 }
 
-// The first byte from `at` on that is no space.
-fn word_start(line: &[u8], at: usize) -> usize
-    ensures { WordStart line.now at result }
+// Where the first word starts, if there is one.
+fn word_start(line: &[u8]) -> Option<usize>
+    ensures { result ≡ position (λ b. not (b == space)) line.now }
 {
-    for i in at..line.len() {
-        if line[i] != SPACE {
-            return i;
-        }
-    }
-    line.len()
-}
-
-// The first space from `start` on.
-fn word_end(line: &[u8], start: usize) -> usize
-    requires { start ≤ length line.now }
-    ensures { WordEnd line.now start result }
-{
-    for i in start..line.len() {
-        if line[i] == SPACE {
-            return i;
-        }
-    }
-    line.len()
+    line.iter().position(|&b| b != SPACE)
 }
 
 // The first word from `at` on.
-pub fn next_word(line: &[u8], at: usize) -> Word
-    ensures { NextWord line.now at result.start result.end }
+pub fn next_word(line: &[u8], at: usize) -> Option<Word<'_>>
+    ensures none { IfNone result (words_of (drop at line.now) ≡ []) }
+    ensures next { IfSome result (λ word. IsNext line.now at word) }
 {
-    let start = word_start(line, at);
-    let end = word_end(line, start);
-    Word { start, end }
+    let rest = line.get(at..)?;
+    let start = word_start(rest)?;
+    let word = &rest[start..];
+    let len = first_place(SPACE, word).unwrap_or(word.len());
+    Some(Word {
+        bytes: &word[..len],
+        end: at + start + len,
+    })
 }

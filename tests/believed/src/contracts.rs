@@ -4,6 +4,11 @@ use crate::file::{code, File, Kind};
 use crate::scope::is_type;
 use crate::words::Words;
 
+/// The types and the traits that come from no `use` line.
+const PRELUDE: [&str; 8] = [
+    "Result", "Option", "Self", "Copy", "Drop", "From", "Ok", "Some",
+];
+
 /// What may stand before an item.
 const MARKS: [&str; 3] = ["pub(crate) ", "pub ", "extern \"C\" "];
 
@@ -16,15 +21,23 @@ pub fn read(path: &str, text: &str) -> File {
         let (first, rest) = item.split_once(' ').unwrap_or((item, ""));
         let name = identifiers(rest).next().unwrap_or_default();
         match first {
-            "use" => file
-                .scope
-                .bring_types(&import(&lines[at..]).replace("crate", own)),
+            "use" => {
+                let path = import(&lines[at..]).replace("crate", own);
+                let again = line.starts_with("pub use ");
+                let path = if again {
+                    format!("{own}::{path}")
+                } else {
+                    path
+                };
+                file.scope.bring_types(&path);
+            }
             "ghost" => file.scope.bring(&import(&lines[at..])),
             "struct" | "enum" => {
                 let last = if item.ends_with('{') { "}" } else { line };
                 let body = upto(last, &lines[at..]);
                 file.add(Kind::Type, name, body.len(), words_of_type(first, body));
             }
+            "type" => file.add(Kind::Type, name, 1, words_of_type(first, &lines[at..=at])),
             "fn" if !item.ends_with('{') => {
                 let head = upto("{", &lines[at..]);
                 file.add(Kind::Contract, name, head.len(), words_of_contract(head));
@@ -86,9 +99,10 @@ fn words_of_contract(lines: &[&str]) -> Words {
     words
 }
 
+/// Those of the language itself are left out.
 fn types(text: &str) -> impl Iterator<Item = String> + '_ {
     identifiers(text)
-        .filter(|word| is_type(word))
+        .filter(|word| is_type(word) && !PRELUDE.contains(word))
         .map(str::to_string)
 }
 

@@ -1,20 +1,15 @@
--- `sheet_text` meets its contract: the refusal of the reader, or the lines of its list.
-use native.Mathlib.Omega.{arith}
-use mathlib.Core.Path.{◌≡◌, ap, ◌∙◌}
-use Rattle.sheet.specs.declared.read.Reading.{Reading}
-use Rattle.report.proofs.Reporting.{report_refused, report_read}
+use Rattle.std.proofs.Common.{rules, ◌≡◌, sym, ◌∙◌}
+use Rattle.text.specs.Line.{refusal_line}
+use Rattle.week.specs.Fault.{numbers}
+use Rattle.report.specs.Contract.{text_of}
+use Rattle.report.proofs.Reporting.{read_refused, read_lines}
 use Rattle.report.proofs.sheet_text.Goals as goal
 
--- of what the reader answers
-number_is : {r s : Reading} → r ≡ s → r.refusal.number ≡ s.refusal.number
-number_is e = ap (λ (r : Reading). r.refusal.number) e
-
-pub returns-then-fault-ne0 : goal.returns-then-fault-ne0
-returns-then-fault-ne0 c =
-    let reading = c.read-reading.ensures in
-    rw (report_refused c.args.sheet.now (λ z. c.if-fault-ne0.true (number_is reading ∙ z)), ← reading) c.refusal_line.ensures
+pub returns-in_err-week : goal.returns-in_err-week
+returns-in_err-week c =
+    let fault = c.in_err-week.field-0.0 in
+    let handed_on : text_of c.from_residual.result ≡ refusal_line (numbers fault) = search rules in
+    handed_on ∙ sym (read_refused c.args.sheet.now fault c.in_err-week.ensures)
 
 pub returns : goal.returns
-returns c =
-    let reading = c.read-reading.ensures in
-    rw (report_read c.args.sheet.now (omega (arith, number_is reading)), ← reading) c.week_text.ensures
+returns c = c.week_text.ensures ∙ read_lines c.args.sheet.now c.in_ok-week.week c.in_ok-week.ensures

@@ -1,11 +1,6 @@
--- `batch_line` meets its contract: the word, three numbers, the recipes and the line feed.
-use borrow.Author.Rules.{rules}
-use native.Mathlib.Omega.{arith}
-use Prim.Native.Nat.{◌*◌, ◌≤◌}
-use mathlib.Core.List.{[], ◌∷◌}
-use lib.ListN.{length}
+-- `batch_line`: the word, three numbers, the recipes and the line feed.
+use Rattle.std.proofs.Common.{ℕ, rules, arith, ◌*◌, ◌≤◌, [], ◌∷◌, length, ap, length-append, append_assoc}
 use Rattle.week.specs.declared.record.Batch.{Batch}
-use Rattle.text.proofs.Putting.{puts-length, puts_then}
 use Rattle.text.proofs.Spacing.{numbers, numbers_short}
 use Rattle.draft.proofs.Printed.{batch_parts}
 use Rattle.draft.proofs.list.batch_line.Goals as goal
@@ -14,39 +9,31 @@ use Rattle.draft.proofs.list.batch_line.Goals as goal
 abbrev Short : Batch → Type 0
 Short b = length (numbers (b.number ∷ b.arrival ∷ b.due ∷ [])) ≤ 3 * 6
 
-pub put_numbers-end-requires : goal.put_numbers-end-requires
-put_numbers-end-requires c =
+pub put_numbers-requires : goal.put_numbers-requires
+put_numbers-requires c =
     let b = c.args.batch in
     let short : Short b = numbers_short 4 (b.number ∷ b.arrival ∷ b.due ∷ []) (search rules) in
-    omega (arith, short, puts-length c.put-end.ensures)
+    (search rules, omega (arith, short, length-append {A = ℕ}, ap length c.put.ensures))
 
-pub put_recipes-end-requires : goal.put_recipes-end-requires
-put_recipes-end-requires c =
+pub put_recipes-requires : goal.put_recipes-requires
+put_recipes-requires c =
     let b = c.args.batch in
     let short : Short b = numbers_short 4 (b.number ∷ b.arrival ∷ b.due ∷ []) (search rules) in
-    omega (
-      arith,
-      short,
-      c.put-end.ensures.next,
-      c.put_numbers-end.ensures.next,
-      puts-length c.put-end.ensures,
-      puts-length c.put_numbers-end.ensures,
-    )
+    omega (arith, short, length-append {A = ℕ}, ap length c.put.ensures, ap length c.put_numbers.ensures)
 
-pub put-requires : goal.put-requires
-put-requires c =
+pub put-requires-2 : goal.put-requires-2
+put-requires-2 c =
     let b = c.args.batch in
-    let short : Short b = numbers_short 4 (b.number ∷ b.arrival ∷ b.due ∷ []) (search rules) in
-    omega (
-      arith,
-      short,
-      c.requires,
-      c.put-end.ensures.next,
-      c.put_numbers-end.ensures.next,
-      c.put_recipes-end.ensures.width,
-      puts-length c.put-end.ensures,
-      puts-length c.put_numbers-end.ensures,
-      puts-length c.put_recipes-end.ensures.part,
+    let short : Short b = numbers_short 4 (b.number ∷ b.arrival ∷ b.due ∷ []) (search rules) in (
+      search rules,
+      omega (
+        arith,
+        short,
+        length-append {A = ℕ},
+        ap length c.put.ensures,
+        ap length c.put_numbers.ensures,
+        c.put_recipes.ensures.width,
+      ),
     )
 
 pub returns : goal.returns
@@ -54,15 +41,16 @@ returns c =
     let b = c.args.batch in
     let short : Short b = numbers_short 4 (b.number ∷ b.arrival ∷ b.due ∷ []) (search rules) in
     record {
-      line = rw (batch_parts c.args.batch)
-          (puts_then c.put-end.ensures
-          (puts_then c.put_numbers-end.ensures (puts_then c.put_recipes-end.ensures.part c.put.ensures)));
-      width = omega (
-        arith,
-        short,
-        c.put-end.ensures.next,
-        c.put_numbers-end.ensures.next,
-        c.put_recipes-end.ensures.width,
-        c.put.ensures.next,
-      );
+      line =
+          rw (batch_parts b, c.put-2.ensures, c.put_recipes.ensures.part, c.put_numbers.ensures, c.put.ensures) (simp append_assoc);
+      width =
+          omega (
+            arith,
+            short,
+            length-append {A = ℕ},
+            ap length c.put.ensures,
+            ap length c.put_numbers.ensures,
+            c.put_recipes.ensures.width,
+            ap length c.put-2.ensures,
+          );
     }

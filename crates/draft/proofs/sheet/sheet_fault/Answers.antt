@@ -1,31 +1,53 @@
+use Prim.Native.Nat.{ℕ, suc, ◌+◌, ◌<◌, ◌≤◌}
 use native.Mathlib.Numerals.{add-one}
 use native.Mathlib.Omega.{arith}
-use mathlib.Core.Path.{refl, ◌∙◌}
-use borrow.Author.Rules.{rules}
+use mathlib.Core.Path.{◌≡◌, sym, ap, ◌∙◌}
+use lib.ListN.{get_or, take, length, length-take}
+use lib.Seq.{get_or-take}
 use borrow.Author.Tests.{lt-ltb, le-ltb}
-use Rattle.week.specs.Refusal.{refused_if, first_of, or_else}
-use Rattle.week.proofs.First.{refuses, search_after, search_found, search_on, search_over}
+use Rattle.week.specs.declared.refusal.Fault.{Fault}
+use Rattle.week.specs.Record.{max_recipes, no_batch}
+use Rattle.week.specs.Refusal.{accepted, refused}
+use Rattle.week.specs.Fault.{numbers, place_in}
+use Rattle.week.proofs.First.{number_of_lem, refused_if_true, refused_if_false, search_after, search_found, search_on, search_over}
+use Rattle.week.proofs.Faults.{fault_refuses}
+use Rattle.draft.specs.declared.record.Draft.{Draft}
 use Rattle.draft.specs.Sheet.{unkept, sheet_fault}
 use Rattle.draft.proofs.sheet.sheet_fault.Goals as goal
 
-pub returns-then-draft-gt-MAX_BATCHES : goal.returns-then-draft-gt-MAX_BATCHES
-unfolding sheet_fault first_of refused_if or_else
-returns-then-draft-gt-MAX_BATCHES c = simp (c.at.ensures, lt-ltb _ _ c.if-draft-gt-MAX_BATCHES.true)
+-- the batch that the loop is at, and when 4 refuses it
+module _ (d : Draft) (i : ℕ) where
+  counted : i < length (take d.count d.batches) → i < d.count
+  counted l = omega (arith, l, length-take d.count d.batches)
+
+  unkept_refused : i < d.count → max_recipes < (get_or (take d.count d.batches) i no_batch).count → unkept d i ≡ refused 4 (i + 1) 0
+  unfolding unkept
+  unkept_refused low more =
+      rw (add-one) (refused_if_true 4 (suc i) 0 (lt-ltb _ _ (rw (get_or-take d.count d.batches i no_batch low) at more)))
+
+  unkept_passes : i < d.count → (get_or (take d.count d.batches) i no_batch).count ≤ max_recipes → unkept d i ≡ accepted
+  unfolding unkept
+  unkept_passes low few = refused_if_false 4 (suc i) 0 (le-ltb _ _ (rw (get_or-take d.count d.batches i no_batch low) at few))
 
 pub loop-i-init : goal.loop-i-init
 unfolding sheet_fault
-loop-i-init c = (search rules, search_after _ _ _ _ _ (le-ltb _ _ c.if-draft-gt-MAX_BATCHES.false))
+loop-i-init c = search_after _ _ _ _ _ (le-ltb _ _ c.if-draft-gt-MAX_BATCHES.false)
 
 pub returns-then-batch-gt-MAX_RECIPES : goal.returns-then-batch-gt-MAX_RECIPES
-unfolding unkept refused_if
 returns-then-batch-gt-MAX_RECIPES c =
-    search_found _ _ _ c.loop-i.invariant.1 (omega arith) (simp (c.at-then-batch-gt-MAX_RECIPES.ensures, add-one, lt-ltb _ _ c.if-batch-gt-MAX_RECIPES.true))
-    (refuses 4 refl c.at-then-batch-gt-MAX_RECIPES.ensures)
+    let d = c.args.draft in
+    let i = c.loop-i.i in
+    let low = counted d i c.loop-i-test.true in
+    let named = ap numbers c.in_place.ensures ∙ ap (λ (f : Fault). numbers (place_in (i + 1) f)) c.of-then-batch-gt-MAX_RECIPES.ensures in
+    search_found _ _ _ c.loop-i.invariant low (named ∙ sym (unkept_refused d i low c.if-batch-gt-MAX_RECIPES.true))
+    (fault_refuses c.in_place.result)
 
 pub loop-i-preserved : goal.loop-i-preserved
-unfolding unkept refused_if
 loop-i-preserved c =
-    (omega arith, search_on _ _ _ c.loop-i.invariant.1 (omega arith) (simp (le-ltb _ _ c.if-batch-gt-MAX_RECIPES.false)))
+    let d = c.args.draft in
+    let i = c.loop-i.i in
+    let low = counted d i c.loop-i-test.true in
+    search_on _ _ _ c.loop-i.invariant low (number_of_lem (unkept_passes d i low c.if-batch-gt-MAX_RECIPES.false))
 
 pub returns : goal.returns
-returns c = c.none.ensures ∙ search_over _ _ _ c.loop-i.invariant.1 c.loop-i-test.false
+returns c = search_over _ _ _ c.loop-i.invariant (omega arith)

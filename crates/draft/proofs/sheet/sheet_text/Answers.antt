@@ -1,17 +1,21 @@
--- `sheet_text` meets its contract: the lines, put into an array of zeros.
-use native.Mathlib.Omega.{arith}
-use Prim.Native.Nat.{ℕ}
-use mathlib.Core.Path.{ap₂}
-use mathlib.Core.List.{List}
-use Rattle.text.proofs.Putting.{puts_padded, puts_counts}
-use Rattle.draft.specs.Sheet.{max_sheet}
+-- `sheet_text`: the frames of a list that can be written, or the refusal.
+use mathlib.Core.Path.{sym, ap, ◌∙◌}
+use mathlib.Core.List.{flatten}
+use Rattle.text.specs.Line.{refusal_line}
+use Rattle.week.proofs.First.{number_of_lem, refuses_too}
+use Rattle.week.proofs.Faults.{fault_refuses}
+use Rattle.draft.proofs.Framed.{writable, lines_refused, lines_written}
 use Rattle.draft.proofs.sheet.sheet_text.Goals as goal
 
-pub returns : goal.returns
-returns c =
-    let put = c.sheet_lines-len.ensures in
-    record {
-      answer =
-          ap₂ (λ (bytes : List ℕ) (len : ℕ). record { bytes = bytes; len = len }) (puts_padded max_sheet put) (omega (arith, put.next));
-      fits = puts_counts put;
-    }
+pub frames-requires : goal.frames-requires
+frames-requires c = writable c.args.draft (number_of_lem (sym c.in-Ok.ensures))
+
+pub returns-in-Ok : goal.returns-in-Ok
+returns-in-Ok c = c.frames.ensures ∙ ap flatten (sym (lines_written c.args.draft (number_of_lem (sym c.in-Ok.ensures))))
+
+pub returns-in-Err : goal.returns-in-Err
+returns-in-Err c =
+    let is = c.in-Err.ensures in
+    rw c.new-text.ensures at c.refusal_line.ensures
+    ∙ ap refusal_line is
+    ∙ sym (lines_refused c.args.draft (refuses_too is (fault_refuses c.in-Err.fault)))

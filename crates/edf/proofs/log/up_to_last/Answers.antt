@@ -1,19 +1,17 @@
-use borrow.Author.Tests.{eq-eqb, ne_eqb}
+-- `up_to_last` meets its contract: what `rposition` finds is the last entry that is the position.
 use native.Mathlib.Omega.{arith}
-use Rattle.edf.proofs.Scans.{last_start, last_step, last_end}
+use Rattle.std.proofs.Common.{rules, tests}
+use mathlib.Core.Path.{sym}
+use Rattle.edf.proofs.Scans.{never_last, last_at}
 use Rattle.edf.proofs.log.up_to_last.Goals as goal
-use Rattle.edf.proofs.log.up_to_last.Goals.{then-log-m, else-log-m}
 
-pub loop-m-init : goal.loop-m-init
-loop-m-init c = last_start _ _
+pub returns-in-Some : goal.returns-in-Some
+returns-in-Some c =
+    omega (
+      arith,
+      last_at c.args.position c.in-Some.last c.args.log.now (search rules) (search rules)
+          (λ k after inside here. search (rules, tests)),
+    )
 
-pub loop-m-preserved : goal.loop-m-preserved
-loop-m-preserved c =
-    last_step c.loop-m.invariant (omega arith)
-    (elim c.if-log-m.branch [
-      | then-log-m w ↦ rw (eq-eqb _ _ w.if-log-m.true) w.last-is
-      | else-log-m w ↦ rw (ne_eqb _ _ w.if-log-m.false) w.last-is
-    ])
-
-pub returns : goal.returns
-returns c = last_end c.loop-m.invariant (omega arith)
+pub returns-in-None : goal.returns-in-None
+returns-in-None c = sym (never_last c.args.position c.args.log.now (λ k inside here. search (rules, tests)))

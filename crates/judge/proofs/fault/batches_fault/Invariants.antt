@@ -10,10 +10,10 @@ use Rattle.judge.proofs.fault.batches_fault.Given as goal
 
 abbrev pub invariant-loop-k : goal.invariant-loop-k
 invariant-loop-k l =
-    (1 ≤ l.k) × (l.k ≤ l.count) × (l.count ≤ max_recipes) × (first (cost_fault l.b) l.k (l.count - l.k) ≡ costs_fault l.b)
+    (1 ≤ l.k) × (l.k ≤ l.b.count) × (l.b.count ≤ max_recipes) × (first (cost_fault l.b) l.k (l.b.count - l.k) ≡ costs_fault l.b)
 
 abbrev pub invariant-batches : goal.invariant-batches
-invariant-batches l = Walk l.week l.numbers l.previous l.i
+invariant-batches l = Walk l.week l.i
 
 abbrev pub decreases-batches : goal.decreases-batches
-decreases-batches l = l.n - l.i
+decreases-batches l = l.week.count - l.i

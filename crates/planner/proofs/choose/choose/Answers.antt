@@ -1,26 +1,29 @@
 -- `choose` meets its contract: each return is one of the cases of `Choosing`, and what the buyer asks follows.
 use Prim.Native.Nat.{ℕ, ◌*◌, ◌≤◌}
-use mathlib.Core.Path.{◌≡◌, sym, ap, ap₂, ◌∙◌}
+use Rattle.std.specs.Prelude.{Option, Some, None}
+use Rattle.std.proofs.lemmas.Result.{err_from_is_err_and}
+use native.Mathlib.Omega.{arith}
+use mathlib.Core.Path.{◌≡◌, refl, sym, ap, ap₂, ◌∙◌}
 use mathlib.Core.Logic.{◌↔◌}
 use mathlib.Core.List.{List}
 use lib.ListN.{length}
-use borrow.Author.Tests.{not-true, not-false}
 use Rattle.jobs.specs.declared.model.JobList.{JobList}
 use Rattle.jobs.specs.Model.{jobs_of}
 use Rattle.jobs.specs.Best.{best}
 use Rattle.select.specs.Table.{filled}
-use Rattle.select.specs.declared.choice.BestChoice.{BestChoice}
 use Rattle.select.specs.Contract.{best_choice}
 use Rattle.select.proofs.BestChoices.{choice_none}
 use Rattle.week.specs.declared.record.Week.{Week}
+use Rattle.week.specs.declared.refusal.Reason.TheVariants as reason
 use Rattle.week.specs.declared.refusal.Refusal.{Refusal}
+use Rattle.week.specs.Fault.{fault_at}
 use Rattle.judge.specs.Fault.{WellFormed}
 use Rattle.week.proofs.First.{number_of_lem}
+use Rattle.week.proofs.Faults.{fault_refuses}
 use Rattle.week.proofs.Owned.{worths_fit}
 use Rattle.judge.proofs.Sound.{Sound, sound}
-use Rattle.planner.specs.declared.choose.Plan.{Plan}
 use Rattle.planner.specs.Job.{job_list_of, week_jobs}
-use Rattle.planner.specs.Choose.{week_best, width_of, fill_fault, refused_plan, plan_of, choose_answer, table_after, FillsTable}
+use Rattle.planner.specs.Choose.{ChooseAnswer, week_best, width_of, fill_fault, refused_plan, plan_of, choose_answer, table_after, FillsTable}
 use Rattle.planner.specs.Choose.{PicksTable, BestPlan, SomePlan, NoPlan, LongTable}
 use Rattle.planner.proofs.Jobs.{packable, answerable, fillable}
 use Rattle.planner.proofs.Choosing.{fill_faultless, long_table, plan_refused, plan_passed, table_kept, table_filled}
@@ -29,7 +32,7 @@ use Rattle.planner.proofs.Demands.{choose_fills, choose_best, choose_none, choos
 use Rattle.planner.proofs.choose.choose.Goals as goal
 
 -- what `choose` promises of its plan and of the table after it: the last four follow from the first two
-abbrev Promised : Week → List ℕ → List ℕ → Plan → Type 0
+abbrev Promised : Week → List ℕ → List ℕ → ChooseAnswer → Type 0
 Promised w before after plan = record {
   answer : plan ≡ choose_answer w (length before);
   table : after ≡ table_after w before;
@@ -39,7 +42,7 @@ Promised w before after plan = record {
   plans : (plan.refusal.number ≡ 0) ↔ (WellFormed w × LongTable w (length before) × SomePlan w);
 }
 
-promised : (w : Week) (table after : List ℕ) (plan : Plan) → plan ≡ choose_answer w (length table) → after ≡ table_after w table →
+promised : (w : Week) (table after : List ℕ) (plan : ChooseAnswer) → plan ≡ choose_answer w (length table) → after ≡ table_after w table →
     Promised w table after plan
 promised w table after plan answer same = record {
   answer = answer;
@@ -51,7 +54,7 @@ promised w table after plan answer same = record {
 }
 
 -- a refusal that leaves the table as it was
-kept : (w : Week) (table : List ℕ) (plan : Plan) {r : Refusal} → fill_fault w (length table) ≡ r → (r.number ≡ 0 → ⊥) →
+kept : (w : Week) (table : List ℕ) (plan : ChooseAnswer) {r : Refusal} → fill_fault w (length table) ≡ r → (r.number ≡ 0 → ⊥) →
     plan ≡ refused_plan r → Promised w table table plan
 kept w table plan fault other is =
     promised w table table plan (is ∙ sym (plan_refused w (length table) fault other)) (sym (table_kept w table fault other))
@@ -70,54 +73,61 @@ filled_over w table after jobs width is =
     is ∙ ap₂ (λ (list : JobList) (width : ℕ). filled (jobs_of list) w.opening width table) jobs width
 
 -- what `read_off` answers, over the jobs of the week
-best_over : (w : Week) (r : BestChoice) {jobs : JobList} → jobs ≡ job_list_of w → r ≡ best_choice (best (jobs_of jobs) w.closing) →
+best_over : (w : Week) (r : Option (List ℕ)) {jobs : JobList} → jobs ≡ job_list_of w → r ≡ best_choice (best (jobs_of jobs) w.closing) →
     r ≡ best_choice (week_best w)
 best_over w r jobs is = is ∙ ap (λ (list : JobList). best_choice (best (jobs_of list) w.closing)) jobs
 
-pub returns-then-fault-ne0 : goal.returns-then-fault-ne0
-returns-then-fault-ne0 c =
-    kept _ _ _ (sym c.fill_fault-fault.ensures) c.if-fault-ne0.true c.refused.ensures
+pub returns-in_err-fill_fault : goal.returns-in_err-fill_fault
+returns-in_err-fill_fault c =
+    let p = err_from_is_err_and c.from_residual.result c.from_residual.ensures.1 in
+    rw (p.1, p.2) (kept _ _ _ (sym c.in_err-fill_fault.ensures) (fault_refuses c.in_err-fill_fault.field-0.0) refl)
 
 pub fill-requires : goal.fill-requires
 fill-requires c =
-    let zero = sym (number_of_lem c.fill_fault-fault.ensures) ∙ c.if-fault-ne0.false in
+    let zero = number_of_lem (sym c.in_ok-fill_fault.ensures) in
     let worths = worths_fit c.args.week _ c.well_formed.0 in
     rw (c.jobs_of-jobs.ensures, c.row_width-width.ensures)
     record { fillable = fillable _ (fine _ _ zero) _ (long _ _ zero); packable = packable _ (fine _ _ zero) worths }
 
 pub read_off-best-requires : goal.read_off-best-requires
 read_off-best-requires c =
-    let zero = sym (number_of_lem c.fill_fault-fault.ensures) ∙ c.if-fault-ne0.false in
+    let zero = number_of_lem (sym c.in_ok-fill_fault.ensures) in
     let after = filled_over c.args.week _ _ c.jobs_of-jobs.ensures c.row_width-width.ensures c.fill.ensures in
     rw c.row_width-width.ensures (readable _ (fine _ _ zero) _ (long _ _ zero) c.jobs_of-jobs.ensures after)
 
-pub returns-then-not-best : goal.returns-then-not-best
+pub returns-in_err-choice : goal.returns-in_err-choice
 unfolding plan_of
-returns-then-not-best c =
+returns-in_err-choice c =
     let w = c.args.week in
-    let zero = sym (number_of_lem c.fill_fault-fault.ensures) ∙ c.if-fault-ne0.false in
+    let zero = number_of_lem (sym c.in_ok-fill_fault.ensures) in
     let after = filled_over w _ _ c.jobs_of-jobs.ensures c.row_width-width.ensures c.fill.ensures in
-    let absent =
-    choice_none (week_best w) (best_over w _ c.jobs_of-jobs.ensures c.read_off-best.ensures) (not-true _ c.if-not-best.true)
-    in
-    promised _ _ _ _
-    (c.refused-then-not-best.ensures ∙ ap refused_plan c.at.ensures ∙ sym (plan_passed _ _ zero absent))
-    (after ∙ sym (table_filled _ _ zero))
+    let best = best_over w _ c.jobs_of-jobs.ensures c.read_off-best.ensures in
+    let p = err_from_is_err_and c.from_residual-in_err-choice.result c.from_residual-in_err-choice.ensures.1 in
+    let h = c.ok_or.ensures in
+    let fault : c.in_err-choice.field-0.0 ≡ fault_at reason.NoPlan 0 0 = grind arith in
+    let none : c.read_off-best.result ≡ None = grind arith in
+    let absent = choice_none (week_best w) (sym none ∙ best) in
+    rw (p.1, p.2, fault)
+    (promised _ _ _ _
+    (sym (plan_passed _ _ zero absent))
+    (after ∙ sym (table_filled _ _ zero)))
 
 pub total-requires : goal.total-requires
 total-requires c =
     let w = c.args.week in
-    let zero = sym (number_of_lem c.fill_fault-fault.ensures) ∙ c.if-fault-ne0.false in
-    let present = read_some w (best_over w _ c.jobs_of-jobs.ensures c.read_off-best.ensures) (not-false _ c.if-not-best.false) in
+    let zero = number_of_lem (sym c.in_ok-fill_fault.ensures) in
+    let some : c.read_off-best.result ≡ Some c.in_ok-choice.choice = grind arith in
+    let present = read_some w (sym some ∙ best_over w _ c.jobs_of-jobs.ensures c.read_off-best.ensures) in
     rw c.jobs_of-jobs.ensures
     (answerable _ (fine _ _ zero) (worths_fit w _ c.well_formed.0) (read_names _ (fine _ _ zero) present))
 
 pub returns : goal.returns
 returns c =
     let w = c.args.week in
-    let zero = sym (number_of_lem c.fill_fault-fault.ensures) ∙ c.if-fault-ne0.false in
+    let zero = number_of_lem (sym c.in_ok-fill_fault.ensures) in
     let after = filled_over w _ _ c.jobs_of-jobs.ensures c.row_width-width.ensures c.fill.ensures in
-    let present = read_some w (best_over w _ c.jobs_of-jobs.ensures c.read_off-best.ensures) (not-false _ c.if-not-best.false) in
+    let some : c.read_off-best.result ≡ Some c.in_ok-choice.choice = grind arith in
+    let present = read_some w (sym some ∙ best_over w _ c.jobs_of-jobs.ensures c.read_off-best.ensures) in
     promised _ _ _ _
-    (read_answer_lem _ (fine _ _ zero) present _ zero c.none.ensures c.jobs_of-jobs.ensures c.total.ensures)
+    (read_answer_lem _ (fine _ _ zero) present _ zero refl c.jobs_of-jobs.ensures c.total.ensures)
     (after ∙ sym (table_filled _ _ zero))

@@ -1,15 +1,12 @@
-use native.Mathlib.Omega.{arith}
-use mathlib.Core.Path.{refl}
-use Rattle.arrays.proofs.Stores.{tabulated_start, tabulated_step, tabulated_end}
+-- `job_of` meets its contract.
+use Rattle.std.proofs.Common.{rules}
+use Rattle.jobs.specs.Model.{no_version}
+use Rattle.week.specs.Record.{no_recipe}
+use Rattle.planner.specs.Job.{recipe_version}
+use Rattle.planner.proofs.Mapped.{mapped}
 use Rattle.planner.proofs.job.job_of.Goals as goal
-
-pub loop-k-init : goal.loop-k-init
-loop-k-init c = tabulated_start _ _ _ _ refl
-
-pub loop-k-preserved : goal.loop-k-preserved
-loop-k-preserved c = tabulated_step c.loop-k.invariant (omega arith) c.version_of.ensures
 
 pub returns : goal.returns
 returns c =
-    let versions = tabulated_end c.loop-k.invariant (omega arith) in
+    let versions = mapped _ _ recipe_version (λ a b q called. search rules) _ _ no_recipe no_version c.map.ensures.items in
     cc c.ready.ensures

@@ -1,17 +1,12 @@
-use native.Mathlib.Omega.{arith}
-use mathlib.Core.Path.{refl, ap}
-use mathlib.Core.List.{List}
-use Rattle.arrays.proofs.Stores.{tabulated_start, tabulated_step, tabulated_end}
-use Rattle.jobs.specs.declared.model.Job.{Job}
+-- `jobs_of` meets its contract.
+use Rattle.std.proofs.Common.{rules}
+use Rattle.jobs.specs.Model.{no_job}
+use Rattle.week.specs.Record.{no_batch}
+use Rattle.planner.specs.Job.{job_from}
+use Rattle.planner.proofs.Mapped.{mapped}
 use Rattle.planner.proofs.job.jobs_of.Goals as goal
-
-pub loop-i-init : goal.loop-i-init
-loop-i-init c = tabulated_start _ _ _ _ refl
-
-pub loop-i-preserved : goal.loop-i-preserved
-loop-i-preserved c = tabulated_step c.loop-i.invariant (omega arith) c.job_of.ensures
 
 pub returns : goal.returns
 returns c =
-    let n = c.args.week.count in
-    ap (λ (jobs : List Job). record { count = n; jobs = jobs }) (tabulated_end c.loop-i.invariant (omega arith))
+    let jobs = mapped _ _ (job_from c.args.week.opening) (λ a b q called. search rules) _ _ no_batch no_job c.map.ensures.items in
+    cc

@@ -1,8 +1,8 @@
 -- `run` meets its contract: each return is one of the cases of `Running`, and what the buyer asks follows.
-use Prim.Native.Nat.{ℕ, ◌-◌, ◌≤◌}
-use native.Mathlib.Nat.{sub-zero}
+use Prim.Native.Nat.{ℕ, ◌≤◌}
 use native.Mathlib.Omega.{arith}
-use mathlib.Core.Path.{◌≡◌, sym, ap, ap₂, ◌∙◌}
+use Rattle.std.proofs.lemmas.Result.{err_from_is_err_and}
+use mathlib.Core.Path.{◌≡◌, refl, sym, ap, ap₂, ◌∙◌}
 use mathlib.Core.Bool.{true}
 use mathlib.Core.List.{List, ◌++◌}
 use lib.ListN.{length, take, drop}
@@ -17,10 +17,10 @@ use Rattle.week.specs.declared.refusal.Refusal.{Refusal}
 use Rattle.week.specs.Record.{span_of}
 use Rattle.judge.specs.Fault.{WellChosen}
 use Rattle.week.proofs.First.{number_of_lem}
+use Rattle.week.proofs.Faults.{fault_refuses}
 use Rattle.judge.proofs.Sound.{Sound, sound, choice_passes}
-use Rattle.planner.specs.declared.run.WeekRun.{WeekRun}
 use Rattle.planner.specs.Job.{job_list_of, week_jobs, week_choice}
-use Rattle.planner.specs.Run.{run_fault, week_log, log_answer, refused_run, run_answer, log_after, StationLog, LogSays}
+use Rattle.planner.specs.Run.{RunAnswer, run_fault, week_log, log_answer, refused_run, run_answer, log_after, StationLog, LogSays}
 use Rattle.planner.specs.Run.{InTime}
 use Rattle.planner.proofs.Jobs.{handed_names}
 use Rattle.planner.proofs.Running.{run_faultless, run_answers, log_kept, log_written, long_log}
@@ -28,7 +28,7 @@ use Rattle.planner.proofs.Demands.{run_reads, run_says, run_in_time}
 use Rattle.planner.proofs.run.run.Goals as goal
 
 -- what `run` promises of its answer and of the log after it: the last three follow from the first two
-abbrev Promised : Week → List ℕ → List ℕ → List ℕ → WeekRun → Type 0
+abbrev Promised : Week → List ℕ → List ℕ → List ℕ → RunAnswer → Type 0
 Promised w choice before after run = record {
   answer : run ≡ run_answer w choice (length before);
   log : after ≡ log_after w choice before;
@@ -37,7 +37,7 @@ Promised w choice before after run = record {
   in_time : run.refusal.number ≡ 0 → meets (week_jobs w) w.closing (week_choice w choice) ≡ true → InTime w choice after;
 }
 
-promised : (w : Week) (choice before after : List ℕ) (run : WeekRun) →
+promised : (w : Week) (choice before after : List ℕ) (run : RunAnswer) →
     run ≡ run_answer w choice (length before) → after ≡ log_after w choice before → Promised w choice before after run
 promised w choice before after run is same = record {
   answer = is;
@@ -48,7 +48,7 @@ promised w choice before after run is same = record {
 }
 
 -- a refusal, which keeps the log
-kept : (w : Week) (choice log : List ℕ) (run : WeekRun) {r : Refusal} → run_fault w choice (length log) ≡ r →
+kept : (w : Week) (choice log : List ℕ) (run : RunAnswer) {r : Refusal} → run_fault w choice (length log) ≡ r →
     (r.number ≡ 0 → ⊥) → run ≡ refused_run r → Promised w choice log log run
 kept w choice log run fault other is =
     promised w choice log log run (is ∙ sym ((run_answers w choice (length log)).refused fault other))
@@ -67,9 +67,8 @@ work_over : (w : Week) (choice : List ℕ) {jobs : JobList} {work : Workload} �
 work_over w choice jobs is = is ∙ ap (λ (list : JobList). workload_of list choice) jobs
 
 -- the part of the log that is lent has a byte for each minute
-part_length : (w : Week) (log : List ℕ) {n : ℕ} → n ≡ span_of w → span_of w ≤ length log → length (take (n - 0) log) ≡ span_of w
-part_length w log {n} is long =
-    ap (λ (n : ℕ). length (take n log)) (sub-zero n ∙ is) ∙ length-take-le (span_of w) log long
+part_length : (w : Week) (log : List ℕ) {n : ℕ} → n ≡ span_of w → span_of w ≤ length log → length (take n log) ≡ span_of w
+part_length w log is long = ap (λ (n : ℕ). length (take n log)) is ∙ length-take-le (span_of w) log long
 
 -- what the station leaves in it
 part_after : (w : Week) (choice part : List ℕ) {work : Workload} {n : ℕ} → work ≡ workload_of (job_list_of w) choice →
@@ -80,24 +79,30 @@ part_after w choice part work n is =
     ∙ ap₂ (λ (work : Workload) (n : ℕ). work_log work w.opening n) work n
     ∙ workload_log (job_list_of w) choice w.opening (span_of w)
 
-pub returns-then-fault-ne0 : goal.returns-then-fault-ne0
-returns-then-fault-ne0 c =
-    kept _ _ _ _ (sym c.run_fault-fault.ensures) c.if-fault-ne0.true c.refused.ensures
+pub returns-in_err-run_fault : goal.returns-in_err-run_fault
+returns-in_err-run_fault c =
+    let p = err_from_is_err_and c.from_residual.result c.from_residual.ensures.1 in
+    rw (p.1, p.2) (kept _ _ _ _ (sym c.in_err-run_fault.ensures) (fault_refuses c.in_err-run_fault.field-0.0) refl)
 
 pub workload_of-work-requires : goal.workload_of-work-requires
 workload_of-work-requires c =
-    let (list, names, log) = passed _ _ _ (sym (number_of_lem c.run_fault-fault.ensures) ∙ c.if-fault-ne0.false) in
+    let (list, names, log) = passed _ _ _ (number_of_lem (sym c.in_ok-run_fault.ensures)) in
     rw c.jobs_of.ensures (handed_names _ list ((choice_passes _ _).0 names))
 
 pub slice_bounds-run_work-end : goal.slice_bounds-run_work-end
 slice_bounds-run_work-end c =
-    let (list, names, log) = passed _ _ _ (sym (number_of_lem c.run_fault-fault.ensures) ∙ c.if-fault-ne0.false) in
+    let (list, names, log) = passed _ _ _ (number_of_lem (sym c.in_ok-run_fault.ensures)) in
     omega (arith, log)
+
+pub slice_bounds-run_work-end-2 : goal.slice_bounds-run_work-end-2
+slice_bounds-run_work-end-2 c =
+    let (list, names, log) = passed _ _ _ (number_of_lem (sym c.in_ok-run_fault.ensures)) in
+    sym (length-take-le c.minutes-minutes.result c.args.log.now (omega (arith, log)))
 
 pub run_work-requires : goal.run_work-requires
 unfolding workload_of
 run_work-requires c =
-    let (list, names, log) = passed _ _ _ (sym (number_of_lem c.run_fault-fault.ensures) ∙ c.if-fault-ne0.false) in
+    let (list, names, log) = passed _ _ _ (number_of_lem (sym c.in_ok-run_fault.ensures)) in
     let w = c.args.week in
     rw (
       work_over w c.args.choice.now c.jobs_of.ensures c.workload_of-work.ensures,
@@ -110,7 +115,7 @@ returns c =
     let args = c.args in
     let w = args.week in
     let choice = args.choice.now in
-    let zero = sym (number_of_lem c.run_fault-fault.ensures) ∙ c.if-fault-ne0.false in
+    let zero = number_of_lem (sym c.in_ok-run_fault.ensures) in
     let (list, names, long) = passed w choice (length args.log.now) zero in
     let work = work_over w choice c.jobs_of.ensures c.workload_of-work.ensures in
     let n = part_length w args.log.now c.minutes-minutes.ensures long in
@@ -119,5 +124,5 @@ returns c =
     (c.run_work.ensures.answer
     ∙ ap₂ (λ (work : Workload) (log : List ℕ). log_answer work w.opening log) work after
     ∙ sym ((run_answers _ _ _).passed zero))
-    (ap₂ (λ (part : List ℕ) (n : ℕ). part ++ drop n args.log.now) after (sub-zero _ ∙ c.minutes-minutes.ensures)
+    (ap₂ (λ (part : List ℕ) (n : ℕ). part ++ drop n args.log.now) after c.minutes-minutes.ensures
     ∙ sym (log_written _ _ _ zero))

@@ -1,22 +1,11 @@
--- `total_line` meets its contract: three words, each with its number, and the line feed.
-use borrow.Author.Rules.{rules}
-use native.Mathlib.Omega.{arith}
-use Prim.Native.Nat.{ℕ, ◌≤◌}
-use mathlib.Core.Path.{◌≡◌}
-use mathlib.Core.List.{List, [], ◌∷◌, ◌++◌}
-use lib.ListN.{length}
+-- `total_line`: three words, each with its number, and the line feed.
+use Rattle.std.proofs.Common.{ℕ, rules, arith, ◌^◌, ◌<◌, ◌≤◌, ◌≡◌, List, [], ◌∷◌, ◌++◌, length, ap, length-append, append_assoc}
 use Rattle.arrays.specs.Text.{bytes, line_feed, space}
 use Rattle.text.specs.Decimal.{decimal}
 use Rattle.text.proofs.Decimals.{decimal_short}
-use Rattle.text.proofs.Putting.{puts-length, puts_then}
 use Rattle.text.proofs.Spacing.{rest_more, rest_none}
 use Rattle.report.specs.Line.{total_line}
 use Rattle.report.proofs.line.total_line.Goals as goal
-
--- the digits of the three numbers
-abbrev Short : (total changes idle : ℕ) → Type 0
-Short total changes idle =
-    (length (decimal total) ≤ 10) × (length (decimal changes) ≤ 5) × (length (decimal idle) ≤ 5)
 
 -- a word and its number
 abbrev named : List ℕ → ℕ → List ℕ
@@ -29,65 +18,68 @@ parts : (total changes idle : ℕ) →
 unfolding total_line
 parts total changes idle = simp (rest_more, rest_none)
 
-pub put_named-end-requires : goal.put_named-end-requires
-put_named-end-requires c =
-    let args = c.args in
-    let short : Short args.total args.changes args.idle =
-    (decimal_short 9 _ (search rules), decimal_short 4 _ (search rules), decimal_short 4 _ (search rules)) in
-    omega (arith, short)
+regroup : (text a b c d : List ℕ) → (((text ++ a) ++ b) ++ c) ++ d ≡ text ++ (a ++ (b ++ (c ++ d)))
+regroup text a b c d = simp append_assoc
 
-pub put_named-end-requires-2 : goal.put_named-end-requires-2
-put_named-end-requires-2 c =
-    let args = c.args in
-    let short : Short args.total args.changes args.idle =
-    (decimal_short 9 _ (search rules), decimal_short 4 _ (search rules), decimal_short 4 _ (search rules)) in
-    omega (arith, short, c.put_named-end.ensures.next, puts-length c.put_named-end.ensures)
+-- the digits of the three numbers
+abbrev Short : (total changes idle : ℕ) → Type 0
+Short total changes idle = (length (decimal total) ≤ 10) × (length (decimal changes) ≤ 5) × (length (decimal idle) ≤ 5)
 
-pub put_named-end-requires-3 : goal.put_named-end-requires-3
-put_named-end-requires-3 c =
-    let args = c.args in
-    let short : Short args.total args.changes args.idle =
-    (decimal_short 9 _ (search rules), decimal_short 4 _ (search rules), decimal_short 4 _ (search rules)) in
-    omega (
-      arith,
-      short,
-      c.put_named-end.ensures.next,
-      c.put_named-end-2.ensures.next,
-      puts-length c.put_named-end.ensures,
-      puts-length c.put_named-end-2.ensures,
-    )
+short : (total changes idle : ℕ) → total < 2 ^ 32 → changes < 2 ^ 16 → idle < 2 ^ 16 → Short total changes idle
+short total changes idle t c i =
+    (decimal_short 9 total (omega arith), decimal_short 4 changes (omega arith), decimal_short 4 idle (omega arith))
+
+pub put_named-requires : goal.put_named-requires
+put_named-requires c =
+    let fits = short c.args.total c.args.changes c.args.idle c.ranges.total.fits c.ranges.changes.fits c.ranges.idle.fits in
+    (search rules, omega (arith, fits))
+
+pub put_named-requires-2 : goal.put_named-requires-2
+put_named-requires-2 c =
+    let fits = short c.args.total c.args.changes c.args.idle c.ranges.total.fits c.ranges.changes.fits c.ranges.idle.fits in
+    (search rules, omega (arith, fits, length-append {A = ℕ}, ap length c.put_named.ensures))
+
+pub put_named-requires-3 : goal.put_named-requires-3
+put_named-requires-3 c =
+    let fits = short c.args.total c.args.changes c.args.idle c.ranges.total.fits c.ranges.changes.fits c.ranges.idle.fits in
+    (search rules, omega (arith, fits, length-append {A = ℕ}, ap length c.put_named.ensures, ap length c.put_named-2.ensures))
 
 pub put-requires : goal.put-requires
 put-requires c =
-    let args = c.args in
-    let short : Short args.total args.changes args.idle =
-    (decimal_short 9 _ (search rules), decimal_short 4 _ (search rules), decimal_short 4 _ (search rules)) in
-    omega (
-      arith,
-      short,
-      c.put_named-end.ensures.next,
-      c.put_named-end-2.ensures.next,
-      c.put_named-end-3.ensures.next,
-      puts-length c.put_named-end.ensures,
-      puts-length c.put_named-end-2.ensures,
-      puts-length c.put_named-end-3.ensures,
+    let fits = short c.args.total c.args.changes c.args.idle c.ranges.total.fits c.ranges.changes.fits c.ranges.idle.fits in (
+      search rules,
+      omega (
+        arith,
+        fits,
+        length-append {A = ℕ},
+        ap length c.put_named.ensures,
+        ap length c.put_named-2.ensures,
+        ap length c.put_named-3.ensures,
+      ),
     )
 
 pub returns : goal.returns
 returns c =
-    let args = c.args in
-    let short : Short args.total args.changes args.idle =
-    (decimal_short 9 _ (search rules), decimal_short 4 _ (search rules), decimal_short 4 _ (search rules)) in
+    let fits = short c.args.total c.args.changes c.args.idle c.ranges.total.fits c.ranges.changes.fits c.ranges.idle.fits in
     record {
-      line = rw (parts args.total args.changes args.idle)
-          (puts_then c.put_named-end.ensures
-          (puts_then c.put_named-end-2.ensures (puts_then c.put_named-end-3.ensures c.put.ensures)));
-      width = omega (
-        arith,
-        short,
-        c.put_named-end.ensures.next,
-        c.put_named-end-2.ensures.next,
-        c.put_named-end-3.ensures.next,
-        c.put.ensures.next,
-      );
+      line =
+          rw (
+            parts c.args.total c.args.changes c.args.idle,
+            c.put.ensures,
+            c.put_named-3.ensures,
+            c.put_named-2.ensures,
+            c.put_named.ensures,
+          )
+          (regroup c.args.text.now (named (bytes "total") c.args.total) (named (bytes " changes") c.args.changes)
+          (named (bytes " idle") c.args.idle) (line_feed ∷ []));
+      width =
+          omega (
+            arith,
+            fits,
+            length-append {A = ℕ},
+            ap length c.put_named.ensures,
+            ap length c.put_named-2.ensures,
+            ap length c.put_named-3.ensures,
+            ap length c.put.ensures,
+          );
     }

@@ -1,36 +1,57 @@
--- `plan_text` meets its contract: Check and Run of the plan, and the lines that their answers make.
-use native.Mathlib.Omega.{arith}
-use Prim.Native.Nat.{◌-◌}
-use mathlib.Core.Path.{◌≡◌}
-use mathlib.Core.List.{flatten}
-use Rattle.text.proofs.Putting.{puts-length, puts_then}
-use Rattle.report.specs.Report.{plan_lines}
-use Rattle.planner.proofs.Owned.{recipes_owned}
+use Rattle.std.proofs.Common.{arith, ◌<◌, ◌≡◌, suc, length, ap, sym, append_assoc}
+use mathlib.Core.List.{append-nil, flatten}
+use lib.ListN.{length-take}
+use lib.Seq.{get_or-take}
+use Rattle.std.specs.Prelude.{Ok}
+use Rattle.week.specs.Record.{no_batch}
+use Rattle.week.proofs.Owned.{batches_owned}
+use Rattle.planner.specs.Check.{checked_answer}
+use Rattle.planner.specs.Choose.{chosen_answer}
+use Rattle.planner.specs.Run.{ran_answer}
+use Rattle.report.specs.Report.{batch_answer, batch_lines}
+use Rattle.report.proofs.BatchLines.{lines_more}
 use Rattle.report.proofs.plan.plan_text.Goals as goal
 
-pub slice_bounds-check-end : goal.slice_bounds-check-end
-slice_bounds-check-end c = omega (arith, recipes_owned c.args.plan _ c.well_formed.1.1.0, c.requires.1.most)
+pub total_line-requires : goal.total_line-requires
+total_line-requires c = omega (arith, c.week_line.ensures.width, ap length c.new-text.ensures)
 
-pub slice_bounds-run_week-end : goal.slice_bounds-run_week-end
-slice_bounds-run_week-end c = omega (arith, recipes_owned c.args.plan _ c.well_formed.1.1.0, c.requires.1.most)
+pub loop-i-init : goal.loop-i-init
+unfolding flatten batch_lines
+loop-i-init c = record {
+  put = sym (append-nil _);
+  width = omega (arith, c.total_line.ensures.width, c.week_line.ensures.width, ap length c.new-text.ensures);
+}
 
-pub total_line-end-requires : goal.total_line-end-requires
-total_line-end-requires c =
-    let first = c.week_line-end.ensures in omega (arith, first.width, puts-length first.line, c.requires.0)
+pub line_of-line-requires : goal.line_of-line-requires
+line_of-line-requires c =
+    c.requires.forward (suc c.loop-i.i) (omega arith) (omega (arith, length-take c.args.week.count c.args.week.batches))
 
-pub batch_lines-requires : goal.batch_lines-requires
-batch_lines-requires c =
-    let first = c.week_line-end.ensures in
-    let second = c.total_line-end.ensures in
-    let given = c.requires in
-    let all : c.args.week.count - 0 ≡ c.args.week.count = omega arith in (
-      omega (arith, given.0, given.1.most, first.width, second.width, puts-length first.line, puts-length second.line),
-      rw (rw all at c.check-checked.ensures) given.1,
-    )
+pub batch_line-requires : goal.batch_line-requires
+batch_line-requires c = omega (arith, length-take c.args.week.count c.args.week.batches)
+
+pub loop-i-preserved : goal.loop-i-preserved
+unfolding batch_answer
+loop-i-preserved c =
+    let args = c.args in
+    let i = c.loop-i.i in
+    let more : i < args.week.count = omega (arith, length-take args.week.count args.week.batches) in
+    record {
+      put =
+          rw (
+            c.batch_line.ensures.line,
+            c.line_of-line.ensures,
+            get_or-take args.week.count args.week.batches i no_batch more,
+            c.loop-i.invariant.put,
+            lines_more args.week (chosen_answer (Ok args.plan)) (checked_answer (Ok args.checked)) (ran_answer (Ok args.ran)) i,
+          )
+          (simp append_assoc);
+      width = omega (arith, c.batch_line.ensures.width);
+    }
 
 pub returns : goal.returns
-unfolding plan_lines flatten
+unfolding flatten
 returns c =
-    let all : c.args.week.count - 0 ≡ c.args.week.count = omega arith in
-    rw (← rw all at c.check-checked.ensures, ← rw all at c.run_week-ran.ensures)
-    (puts_then c.week_line-end.ensures.line (puts_then c.total_line-end.ensures.line c.batch_lines.ensures))
+    let week = c.args.week in
+    let all : c.loop-i.i ≡ week.count =
+    omega (arith, length-take week.count week.batches, batches_owned week _ c.well_formed.0) in
+    rw (all, c.total_line.ensures.line, c.week_line.ensures.line, c.new-text.ensures, append_assoc) at c.loop-i.invariant.put

@@ -1,26 +1,32 @@
--- `week_text` meets its contract: the refusal of Choose, or the plan that it answers.
-use borrow.Author.Rules.{rules}
-use native.Mathlib.Omega.{arith}
-use mathlib.Core.Path.{◌≡◌, ap, ◌∙◌}
-use Rattle.planner.specs.declared.choose.Plan.{Plan}
-use Rattle.report.proofs.Reporting.{week_refused, week_planned, printable}
+use Rattle.std.proofs.Common.{rules, ◌≡◌, sym, ◌∙◌}
+use Rattle.text.specs.Line.{refusal_line}
+use Rattle.week.specs.Fault.{numbers}
+use Rattle.report.specs.Contract.{text_of}
+use Rattle.report.proofs.Reporting.{choose_refused, few, check_done, run_done, printable_lem, lines_made}
 use Rattle.report.proofs.plan.week_text.Goals as goal
 
--- of the plan that Choose answers
-number_is : {p q : Plan} → p ≡ q → p.refusal.number ≡ q.refusal.number
-number_is e = ap (λ (p : Plan). p.refusal.number) e
+pub returns-in_err-plan : goal.returns-in_err-plan
+returns-in_err-plan c =
+    let fault = c.in_err-plan.field-0.0 in
+    let handed_on : text_of c.from_residual.result ≡ refusal_line (numbers fault) = search rules in
+    handed_on ∙ sym (choose_refused c.args.week fault c.in_err-plan.ensures)
 
-pub returns-then-fault-ne0 : goal.returns-then-fault-ne0
-returns-then-fault-ne0 c =
-    let plan = c.choose_week-plan.ensures in
-    rw (week_refused c.args.week (λ z. c.if-fault-ne0.true (number_is plan ∙ z)), ← plan) c.refusal_line.ensures
+pub shared_ref_as_front-choice : goal.shared_ref_as_front-choice
+shared_ref_as_front-choice c = few c.args.week c.in_ok-plan.plan c.in_ok-plan.ensures
+
+-- neither Check nor Run refuses what is chosen
+pub returns-in_err-checked : goal.returns-in_err-checked
+returns-in_err-checked c =
+    absurd (check_done c.args.week c.in_ok-plan.plan c.in_ok-plan.ensures c.in_err-checked.field-0.0 c.in_err-checked.ensures)
+
+pub returns-in_err-ran : goal.returns-in_err-ran
+returns-in_err-ran c =
+    absurd (run_done c.args.week c.in_ok-plan.plan c.in_ok-plan.ensures c.in_err-ran.field-0.0 c.in_err-ran.ensures)
 
 pub plan_text-requires : goal.plan_text-requires
-plan_text-requires c =
-    let plan = c.choose_week-plan.ensures in
-    (search rules, rw plan (printable c.args.week (omega (arith, number_is plan))))
+plan_text-requires c = printable_lem c.args.week c.in_ok-plan.plan c.in_ok-plan.ensures c.in_ok-checked.ensures
 
 pub returns : goal.returns
 returns c =
-    let plan = c.choose_week-plan.ensures in
-    rw (week_planned c.args.week (omega (arith, number_is plan)), ← plan) c.plan_text.ensures
+    c.plan_text.ensures
+    ∙ lines_made c.args.week c.in_ok-plan.plan c.in_ok-plan.ensures c.in_ok-checked.ensures c.in_ok-ran.ensures

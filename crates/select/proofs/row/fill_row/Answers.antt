@@ -1,10 +1,10 @@
 use native.Mathlib.Omega.{arith}
-use Prim.Native.Nat.{max}
+use Prim.Native.Nat.{◌≤◌, max}
 use mathlib.Core.Path.{ap, ◌∙◌}
+use lib.ListN.{length-take}
 use Rattle.select.proofs.Rows.{Ready, row_start, row_small, level_small}
-use Rattle.select.proofs.RowStep.{version_asked, due_small, row_step}
+use Rattle.select.proofs.RowStep.{listed, version_asked, row_step}
 use Rattle.select.proofs.RowEnd.{row_end}
-use Rattle.select.proofs.row.fill_row.Goals.{then-first-next, else-first-next}
 use Rattle.select.proofs.row.fill_row.Goals as goal
 
 pub loop-i-init : goal.loop-i-init
@@ -19,44 +19,38 @@ loop-i-init c =
       starts = pre.scored.1;
       low = pre.scored.2;
     } in
-    (job, row_start job (rw pre.sizes.0 at c.set_all.ensures))
+    (job, row_start job (rw pre.sizes.0 at c.fill.ensures.after (λ y e. e)))
 
 pub offer-requires-clause-version : goal.offer-requires-clause-version
 offer-requires-clause-version c =
-    version_asked c.loop-i.invariant.0 c.loop-i.invariant.1 (omega arith) c.version-v.ensures c.first_offer-first.ensures
+    let is = listed c.args.j c.loop-i.i c.loop-i-test.true in
+    version_asked c.loop-i.invariant.0 c.loop-i.invariant.1 is.0 is.1 c.first_offer-first.ensures
 
 pub offer-requires-clause-low : goal.offer-requires-clause-low
 offer-requires-clause-low c = (c.loop-i.invariant.0.low, row_small c.loop-i.invariant.0 c.loop-i.invariant.1)
 
 pub due_offer-requires-clause-version : goal.due_offer-requires-clause-version
 due_offer-requires-clause-version c =
-    version_asked c.loop-i.invariant.0 c.loop-i.invariant.1 (omega arith) c.version-v.ensures c.first_offer-first.ensures
-
-pub greater-level-requires : goal.greater-level-requires
-greater-level-requires c =
-    let job = c.loop-i.invariant.0 in
-    let row = c.loop-i.invariant.1 in (
-      level_small job row,
-      due_small job row (omega arith) c.version-v.ensures c.first_offer-first.ensures c.due_offer.ensures,
-    )
+    let is = listed c.args.j c.loop-i.i c.loop-i-test.true in
+    version_asked c.loop-i.invariant.0 c.loop-i.invariant.1 is.0 is.1 c.first_offer-first.ensures
 
 pub loop-i-preserved : goal.loop-i-preserved
 loop-i-preserved c =
     let job = c.loop-i.invariant.0 in
     let row = c.loop-i.invariant.1 in
-    let level = c.greater-level.ensures ∙ ap (max c.loop-i.level) c.due_offer.ensures in (
+    let is = listed c.args.j c.loop-i.i c.loop-i-test.true in
+    let level = c.max-level.ensures ∙ ap (max c.loop-i.level) c.due_offer.ensures in (
       job,
-      row_step job row (omega arith) c.version-v.ensures c.first_offer-first.ensures c.offer.ensures level
-          (elim c.if-first-next.branch [ then-first-next w ↦ omega (arith, w) | else-first-next w ↦ omega (arith, w) ]),
+      row_step job row is.0 is.1 c.first_offer-first.ensures c.offer.ensures level c.min-next.ensures,
     )
 
 pub raise-requires : goal.raise-requires
 raise-requires c =
     let job = c.loop-i.invariant.0 in
     let row = c.loop-i.invariant.1 in
-    (omega (arith, level_small job row), row_small job row)
+    (omega (arith, job.due, row.size), omega (arith, level_small job row), row_small job row)
 
 pub returns : goal.returns
 returns c =
-    row_end c.loop-i.invariant.0 c.loop-i.invariant.1 c.loop-i-test.false c.raise.ensures c.settle.ensures.scores_after
-    c.settle.ensures.picks_after
+    let all : c.args.j.count ≤ c.loop-i.i = omega (arith, length-take c.args.j.count c.args.j.versions) in
+    row_end c.loop-i.invariant.0 c.loop-i.invariant.1 all c.raise.ensures c.settle.ensures.scores_after c.settle.ensures.picks_after

@@ -4,4 +4,4 @@ use Rattle.select.proofs.row.fill_row.Given as goal
 
 abbrev pub invariant-loop-i : goal.invariant-loop-i
 invariant-loop-i l =
-    Ready l.j l.opening l.due l.from l.scores × Row l.j l.opening l.due l.scores l.words l.level l.next l.i
+    Ready l.fn.j l.opening l.due l.from l.scores × Row l.fn.j l.opening l.due l.scores l.words l.level l.next l.i

@@ -4,4 +4,4 @@ use Rattle.select.proofs.table.fill.Given as goal
 
 abbrev pub invariant-loop-i : goal.invariant-loop-i
 invariant-loop-i l =
-    Filling l.list l.opening l.width l.initial.table l.scores l.words l.table l.from l.i
+    Filling l.fn.list l.opening l.width l.initial.table l.scores l.words l.table l.from l.i

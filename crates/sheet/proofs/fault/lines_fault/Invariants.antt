@@ -1,4 +1,4 @@
--- `lines_fault` answers the first of 16 and 17, line by line. The invariant: the lines from i on, which start at `start`, decide.
+-- `lines_fault` answers the first of 16 and 17, line by line. The invariant: the lines ahead, from i on, decide.
 use Prim.Native.Nat.{◌-◌}
 use mathlib.Core.Path.{◌≡◌}
 use lib.ListN.{length}
@@ -8,10 +8,8 @@ use Rattle.sheet.specs.Fault.{line_fault, lines_fault}
 use Rattle.sheet.proofs.Reached.{Reached}
 use Rattle.sheet.proofs.fault.lines_fault.Given as goal
 
-abbrev pub invariant-loop-start : goal.invariant-loop-start
-invariant-loop-start l =
-    Reached l.sheet l.i l.start
-    × (first (line_fault (lines_of l.sheet)) l.i (length (lines_of l.sheet) - l.i) ≡ lines_fault (lines_of l.sheet))
-
-abbrev pub decreases-loop-start : goal.decreases-loop-start
-decreases-loop-start l = length l.sheet - l.start
+abbrev pub invariant-loop-i : goal.invariant-loop-i
+invariant-loop-i l =
+    let lines = lines_of l.sheet in
+    let i = l.i-iterator.count in
+    Reached lines (lines_of l.i-iterator.iter.rest.now) i × (first (line_fault lines) i (length lines - i) ≡ lines_fault lines)

@@ -1,45 +1,44 @@
 use Prim.Native.Nat.{ℕ, ◌≤◌}
 use native.Mathlib.Omega.{arith}
-use mathlib.Core.Path.{◌≡◌}
-use mathlib.Core.List.{List}
-use borrow.Author.Tests.{ltb-true, ltb-false}
-use Rattle.arrays.proofs.Stores.{padding_step, padding_end}
+use mathlib.Core.Path.{◌≡◌, ap}
+use mathlib.Core.List.{List, ◌++◌}
+use lib.ListN.{length, drop, take}
+use Rattle.std.proofs.lemmas.List.{length-take-le}
+use Rattle.arrays.specs.Made.{tabulate, padded}
+use Rattle.arrays.proofs.Places.{drop-replicate}
+use Rattle.arrays.proofs.Tabulates.{length_tabulate}
+use Rattle.arrays.proofs.Stores.{Tabulated, tabulated_start, tabulated_step, tabulated_end}
+use Rattle.week.specs.declared.record.Recipe.{Recipe}
 use Rattle.week.specs.declared.record.Batch.{Batch}
-use Rattle.sheet.specs.List.{batch_from}
-use Rattle.sheet.proofs.Frames.{batch-length}
-use Rattle.sheet.proofs.list.batch_of.Invariants.{stored, ReadSoFar}
+use Rattle.week.specs.Record.{max_recipes, no_recipe, empty_batch}
+use Rattle.sheet.specs.List.{recipe_from, batch_from}
+use Rattle.sheet.proofs.Frames.{batch_length}
 use Rattle.sheet.proofs.list.batch_of.Goals as goal
 
--- once its recipes are read, the batch is the line's
-read : (line : List ℕ) (batch : Batch) (k : ℕ) → ReadSoFar line batch k → stored line ≤ k → batch ≡ batch_from line
-unfolding batch_from
-read line batch k inv over = rw (← padding_end inv.4 over, ← inv.0, ← inv.1, ← inv.2, ← inv.3)
+-- there is room for n recipes
+room : {b : Batch} → b ≡ empty_batch → (n : ℕ) → n ≤ max_recipes → length (take n b.recipes) ≡ n
+room {b} e n few = length-take-le n b.recipes (omega (arith, ap (λ (b : Batch). length b.recipes) e))
 
-pub word_at-requires : goal.word_at-requires
-word_at-requires c = omega (arith, batch-length c.args.line.now c.requires)
+-- once n are read, they and what stands after them are the line's
+read : {b : Batch} → b ≡ empty_batch → (f : ℕ → Recipe) {n k : ℕ} {items : List Recipe} → n ≤ max_recipes →
+    Tabulated f n no_recipe k items → n ≤ k → items ++ drop n b.recipes ≡ padded max_recipes no_recipe (tabulate f 0 n)
+read e f {n} few h over = rw (e, tabulated_end h over, drop-replicate n max_recipes no_recipe few, length_tabulate f 0 n)
 
-pub word_at-requires-2 : goal.word_at-requires-2
-word_at-requires-2 c = omega (arith, batch-length c.args.line.now c.requires)
+pub loop-k-init : goal.loop-k-init
+loop-k-init c = tabulated_start _ _ _ _ (room c.empty.ensures c.min-stored.result (omega arith))
 
-pub word_at-requires-3 : goal.word_at-requires-3
-word_at-requires-3 c = omega (arith, batch-length c.args.line.now c.requires)
-
-pub byte_at-count-requires : goal.byte_at-count-requires
-byte_at-count-requires c = omega (arith, batch-length c.args.line.now c.requires)
-
-pub word_at-cost-requires : goal.word_at-cost-requires
-word_at-cost-requires c = omega (arith, batch-length c.args.line.now c.requires)
-
-pub word_at-worth-requires : goal.word_at-worth-requires
-word_at-worth-requires c = omega (arith, batch-length c.args.line.now c.requires)
+pub recipe_of-requires : goal.recipe_of-requires
+recipe_of-requires c =
+    omega (arith, room c.empty.ensures c.min-stored.result (omega arith), batch_length c.args.line.now c.requires)
 
 pub loop-k-preserved : goal.loop-k-preserved
 loop-k-preserved c =
-    let inv = c.loop-k.invariant in
-    (inv.0, inv.1, inv.2, inv.3, padding_step inv.4 (omega (arith, ltb-true)) (cc))
+    let size = room c.empty.ensures c.min-stored.result (omega arith) in
+    tabulated_step c.loop-k.invariant (omega arith) c.recipe_of.ensures
 
-pub returns-else-k-lt-MAX_RECIPES : goal.returns-else-k-lt-MAX_RECIPES
-returns-else-k-lt-MAX_RECIPES c = read c.args.line.now c.loop-k.batch c.loop-k.k c.loop-k.invariant (omega (arith, ltb-false))
-
-pub returns-after-loop-k : goal.returns-after-loop-k
-returns-after-loop-k c = read c.args.line.now c.loop-k.batch c.loop-k.k c.loop-k.invariant (omega arith)
+pub returns : goal.returns
+unfolding batch_from
+returns c =
+    let size = room c.empty.ensures c.min-stored.result (omega arith) in
+    let recipes = read c.empty.ensures (recipe_from c.args.line.now) (omega arith) c.loop-k.invariant (omega arith) in
+    rw (recipes, c.min-stored.ensures, c.from-count.ensures, c.byte_at.ensures, c.word_at.ensures, c.word_at-2.ensures, c.word_at-3.ensures)

@@ -1,34 +1,32 @@
 -- `read` meets its contract: each return is one of the cases of `Reading`.
-use Prim.Native.Nat.{ℕ}
+use borrow.Author.Rules.{rules}
+use native.Mathlib.Omega.{arith}
 use mathlib.Core.Path.{◌≡◌, sym, ◌∙◌}
-use mathlib.Core.List.{List}
-use Rattle.week.specs.declared.refusal.Refusal.{Refusal}
+use Rattle.week.specs.Fault.{numbers}
 use Rattle.week.proofs.First.{number_of_lem}
-use Rattle.sheet.specs.Line.{lines_of}
-use Rattle.sheet.specs.Fault.{lines_fault}
+use Rattle.week.proofs.Faults.{fault_refuses}
+use Rattle.sheet.specs.Read.{refused_reading, answer_of}
 use Rattle.sheet.proofs.Reading.{lines_refused, list_refused, list_passed}
 use Rattle.sheet.proofs.read.read.Goals as goal
 
--- every line is in its place
-placed : (sheet : List ℕ) {r : Refusal} → r ≡ lines_fault (lines_of sheet) → r.number ≡ 0 → (lines_fault (lines_of sheet)).number ≡ 0
-placed _ e z = number_of_lem (sym e) ∙ z
-
-pub returns-then-line_fault-ne0 : goal.returns-then-line_fault-ne0
-returns-then-line_fault-ne0 c =
-    c.refused-then-line_fault-ne0.ensures
-    ∙ sym (lines_refused _ c.if-sheet-gt-MAX_BYTES.false c.lines_fault-line_fault.ensures c.if-line_fault-ne0.true)
+pub returns-in_err-lines_fault : goal.returns-in_err-lines_fault
+returns-in_err-lines_fault c =
+    let fault = c.in_err-lines_fault.field-0.0 in
+    let answer : answer_of c.from_residual.result ≡ refused_reading (numbers fault) = search rules in
+    answer ∙ sym (lines_refused _ (omega arith) c.in_err-lines_fault.ensures (fault_refuses fault))
 
 pub week_of-week-requires : goal.week_of-week-requires
-week_of-week-requires c = placed c.args.sheet.now c.lines_fault-line_fault.ensures c.if-line_fault-ne0.false
+week_of-week-requires c = number_of_lem (sym c.in_ok-lines_fault.ensures)
 
-pub returns-then-fault-ne0 : goal.returns-then-fault-ne0
-returns-then-fault-ne0 c =
-    let lines = placed c.args.sheet.now c.lines_fault-line_fault.ensures c.if-line_fault-ne0.false in
-    c.refused-then-fault-ne0.ensures
-    ∙ sym (list_refused _ c.if-sheet-gt-MAX_BYTES.false lines c.week_of-week.ensures c.list_fault-fault.ensures c.if-fault-ne0.true)
+pub returns-in_err-accept_list : goal.returns-in_err-accept_list
+returns-in_err-accept_list c =
+    let fault = c.in_err-accept_list.field-0.0 in
+    let answer : answer_of c.from_residual-in_err-accept_list.result ≡ refused_reading (numbers fault) = search rules in
+    let lines = number_of_lem (sym c.in_ok-lines_fault.ensures) in
+    answer
+    ∙ sym (list_refused _ (omega arith) lines c.week_of-week.ensures c.in_err-accept_list.ensures (fault_refuses fault))
 
 pub returns : goal.returns
 returns c =
-    let lines = placed c.args.sheet.now c.lines_fault-line_fault.ensures c.if-line_fault-ne0.false in
-    sym (list_passed _ c.if-sheet-gt-MAX_BYTES.false lines c.week_of-week.ensures
-    (number_of_lem (sym c.list_fault-fault.ensures) ∙ c.if-fault-ne0.false) c.none.ensures)
+    let lines = number_of_lem (sym c.in_ok-lines_fault.ensures) in
+    sym (list_passed _ (omega arith) lines c.week_of-week.ensures (sym c.in_ok-accept_list.ensures))

@@ -15,10 +15,10 @@ use Rattle.week.proofs.written.with_batch.Goals as goal
 counted : (c : Start) → length (batches_of c.args.week) ≡ c.args.week.count
 counted c = batches_counted c.args.week (batches_owned c.args.week _ c.well_formed.0) (omega arith)
 
-pub insert-batches-requires : goal.insert-batches-requires
-insert-batches-requires c =
+pub insert-requires : goal.insert-requires
+insert-requires c =
     let week = c.args.week in
-    (omega arith, rw (c.fresh-same.ensures, take_at (batches_of week) _ week.count (counted c.before.before)) c.requires.1)
+    (omega arith, rw (c.fresh.ensures, take_at (batches_of week) _ week.count (counted c.before.before)) c.requires.1)
 
 pub returns : goal.returns
 returns c =
@@ -26,5 +26,5 @@ returns c =
     let batch = c.args.batch in
     is_written (insert_in week.opening batch (batches_of week)) refl refl
     (omega (arith, insert-length week.opening batch (batches_of week), counted c.before.before.before))
-    (rw (c.insert-batches.ensures, c.fresh-same.ensures)
+    (rw (c.insert.ensures, c.fresh.ensures)
     (written_more week.opening week.closing batch (batches_of week) week.count (counted c.before.before.before) (omega arith)))
