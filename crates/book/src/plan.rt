@@ -8,7 +8,7 @@ use planner::choose::{Plan, choose};
 use week::refusal::Fault;
 use week::written::fresh;
 
-#[derive(Clone, Copy)]
+#[derive(Clone, Copy, Debug, PartialEq, Eq)]
 pub struct Planned {
     pub plan: Result<Plan, Fault>,
     pub book: Book,

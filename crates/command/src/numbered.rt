@@ -37,18 +37,22 @@ pub(crate) fn given_batch(numbers: Numbers) -> Option<Batch>
         return None;
     }
     let values = numbers.values;
-    let mut batch = Batch::empty();
-    batch.number = values[0];
-    batch.arrival = values[1];
-    batch.due = values[2];
-    batch.count = (numbers.count - 3) / 2;
-    // By index, since of an array that is written through `iter_mut` the proof knows no element.
-    for k in 0..batch.count.min(Batch::MAX_RECIPES) {
-        let cost = values[3 + 2 * k];
-        let worth = values[4 + 2 * k];
-        batch.recipes[k] = Recipe { cost, worth };
+    let count = (numbers.count - 3) / 2;
+    let mut recipes = Batch::empty().recipes;
+    let stored = count.min(Batch::MAX_RECIPES);
+    for (k, recipe) in recipes[..stored].iter_mut().enumerate() {
+        *recipe = Recipe {
+            cost: values[3 + 2 * k],
+            worth: values[4 + 2 * k],
+        };
     }
-    Some(batch)
+    Some(Batch {
+        number: values[0],
+        arrival: values[1],
+        due: values[2],
+        count,
+        recipes,
+    })
 }
 
 // `table SIZE V`, `log SIZE V`: the size, up to a greatest one, and the value. A value that is left out is 0, as is a number that is not

@@ -29,7 +29,7 @@ fn put_recipe(text: &mut Text<MAX_LIST>, recipe: Recipe)
     text.put_numbers(&[recipe.cost, recipe.worth]);
 }
 
-// The recipes of a batch, each after a space; of the one that is not kept nothing but 0.
+// The recipes of a batch, each after a space; that of index 10 is not kept, and is printed as 0 0.
 fn put_recipes(text: &mut Text<MAX_LIST>, batch: Batch)
     requires { length text.old + max_printed * recipe_width ≤ max_list }
     ensures part { text.new ≡ text.old ++ recipes_text batch }

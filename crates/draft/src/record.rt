@@ -4,7 +4,8 @@ ghost use Rattle.draft.specs.Record.{empty_draft, with_batch, week_of, of_week};
 
 use week::record::{Batch, Week};
 
-// The batches are counted up to one more than are kept, so that more is told from it.
+// The batches are counted up to one more than are kept, so that more is told from it. A type of its own and no week of another size: a list
+// that an operation is handed holds the batches that document 01 names, and no more.
 #[derive(Clone, Copy, Debug, PartialEq, Eq)]
 pub struct Draft {
     pub opening: u16,

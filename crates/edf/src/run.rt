@@ -17,7 +17,7 @@ pub fn run(work: Workload, opening: u16, log: &mut [u8])
     requires { Runnable work opening (length log.old) }
     ensures { log.new ≡ work_log work opening (length log.old) }
 {
-    // each with the minutes that it has left
+    // Each with the minutes that it has left.
     let mut tasks = work.tasks;
     for (m, entry) in log.iter_mut().enumerate() {
         let minute = opening + (m as u16);

@@ -45,6 +45,7 @@ pub fn workload_of(list: JobList, choice: &[u8]) -> Workload
         ready: 0,
         minutes: None,
     }; JobList::MAX_JOBS];
+    // By number: after a `zip` with what is written a proof knows none of its entries.
     for (i, job) in list.jobs[..list.count].iter().enumerate() {
         let version = job.version(choice[i]);
         tasks[i] = Task {

@@ -67,6 +67,7 @@ pub fn stretch_all(
 {
     let mut stretches = [Stretch { start: 0, end: 0 }; JobList::MAX_JOBS];
     let mut bound = close;
+    // By number: the job, its version and its stretch are told by one, and so is the position that fails.
     for i in (0..list.count).rev() {
         let job = list.jobs[i];
         let version = job.version(choice[i]);

@@ -79,6 +79,7 @@ fn batches_fault(week: Week) -> Result<(), Fault>
         if let Err(early) = before_costs(week.closing, b) {
             break 'batches Err(early.in_place(i + 1));
         }
+        // By number, which the refusal names; `windows(2)` would give the two as a part to be taken apart again.
         for k in 1..b.count {
             let r = b.recipes[k];
             let q = b.recipes[k - 1];

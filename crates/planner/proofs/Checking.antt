@@ -27,12 +27,6 @@ use Rattle.planner.specs.declared.check.Checked.{Checked}
 use Rattle.planner.specs.Job.{week_jobs, week_choice}
 use Rattle.planner.specs.Check.{CheckAnswer, rule_fault, check_fault, passed, refused_check, check_answer, checked_answer}
 
--- the answer that the code's result is names what that refuses
-pub checked_names : (r : Result Checked Fault) → (checked_answer r).refusal ≡ refusal_of r
-unfolding refused_check
-checked_names (Ok checked) = refl
-checked_names (Err fault) = refl
-
 module _ (w : Week) (choice : List ℕ) where
   abbrev failed : ℕ
   failed = failing (week_jobs w) w.closing (week_choice w choice)

@@ -49,12 +49,6 @@ plan_none : (w : Week) → plan_of w none ≡ refused_plan (plan_fault none)
 unfolding plan_of
 plan_none w = refl
 
--- the answer that the code's result is names what that refuses
-pub chosen_names : (r : Result Plan Fault) → (chosen_answer r).refusal ≡ refusal_of r
-unfolding refused_plan
-chosen_names (Ok plan) = refl
-chosen_names (Err fault) = refl
-
 plan_number : {a b : ChooseAnswer} → a ≡ b → a.refusal.number ≡ b.refusal.number
 plan_number e = ap (λ (p : ChooseAnswer). p.refusal.number) e
 

@@ -25,12 +25,6 @@ use Rattle.planner.specs.declared.run.WeekRun.{WeekRun}
 use Rattle.planner.specs.Job.{job_list_of}
 use Rattle.planner.specs.Run.{RunAnswer, log_fault, run_fault, week_log, log_answer, refused_run, run_answer, ran_answer, log_after, LongLog}
 
--- the answer that the code's result is names what that refuses
-pub ran_names : (r : Result WeekRun Fault) → (ran_answer r).refusal ≡ refusal_of r
-unfolding refused_run
-ran_names (Ok ran) = refl
-ran_names (Err fault) = refl
-
 pub long_log : (w : Week) (size : ℕ) → LongLog w size ↔ (span_of w ≤ size)
 unfolding log_fault
 long_log w size = short_passes 12 (span_of w) size refl

@@ -11,7 +11,7 @@ use week::record::Week;
 use week::refusal::{Fault, Reason};
 
 // Of a choice that Check passes: for each batch, in list order, the stretch that the rule gives it, and the total.
-#[derive(Clone, Copy)]
+#[derive(Clone, Copy, Debug, PartialEq, Eq)]
 pub struct Checked {
     pub total: u32,
     pub stretches: [Stretch; Week::MAX_BATCHES],

@@ -17,7 +17,7 @@ use week::refusal::{Fault, Reason};
 pub const MAX_PICKS: usize = Week::MAX_BATCHES * (Week::MAX_MINUTES as usize + 1);
 
 // For each batch, in list order, its recipe, and the total.
-#[derive(Clone, Copy)]
+#[derive(Clone, Copy, Debug, PartialEq, Eq)]
 pub struct Plan {
     pub total: u32,
     pub choice: [u8; Week::MAX_BATCHES],

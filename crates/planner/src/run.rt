@@ -17,7 +17,7 @@ use week::record::Week;
 use week::refusal::{Fault, Reason};
 
 // For each batch, in list order, its outcome; the idle minutes and the changes.
-#[derive(Clone, Copy)]
+#[derive(Clone, Copy, Debug, PartialEq, Eq)]
 pub struct WeekRun {
     pub idle: u16,
     pub changes: u16,
@@ -43,6 +43,7 @@ fn read_log(work: Workload, opening: u16, log: &[u8]) -> WeekRun
     ensures { ran_answer (Ok result) ≡ log_answer work opening log.now }
 {
     let mut batches = [Outcome::SetAside; Week::MAX_BATCHES];
+    // By number, which the log has of a task; and after a `zip` with what is written a proof knows none of its entries.
     for (i, task) in work.tasks[..work.count].iter().enumerate() {
         batches[i] = outcome_of(task.minutes, opening, log, (i + 1) as u8);
     }

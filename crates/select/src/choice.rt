@@ -20,6 +20,7 @@ pub fn read_off(
 {
     let mut choice = [0; JobList::MAX_JOBS];
     let mut bound = close;
+    // By number: it tells the row of the table, the job and the place of its recipe.
     for at in (0..list.count).rev() {
         let m = usize::from(bound - opening);
         let k = table[at * width + m];

@@ -56,11 +56,11 @@ pub(crate) fn fill_row(
     for (i, v) in j.versions[..j.count].iter().enumerate() {
         let k = (i + 1) as u8;
         let first = first_offer(j, *v, opening, from, width);
-        offer(*v, k, first, due, &*scores, &mut *words);
-        level = level.max(due_offer(*v, k, first, due, &*scores));
+        offer(*v, k, first, due, scores, words);
+        level = level.max(due_offer(*v, k, first, due, scores));
         next = next.min(first);
     }
-    raise(due, level, &mut *words);
-    settle(&*words, scores, picks);
+    raise(due, level, words);
+    settle(words, scores, picks);
     next
 }

@@ -24,7 +24,7 @@ pub fn fill(list: JobList, opening: u16, width: usize, table: &mut [u8])
     scores[..width].fill(NO_JOBS);
     let mut from = 0;
     for (i, j) in list.jobs[..list.count].iter().enumerate() {
-        // By number: after `chunks_exact_mut` a proof knows no entry of the table, and a width of 0 has no chunks.
+        // By number: after `chunks_exact_mut` a proof knows no entry of the table, and must not be asked for a width of 0.
         let at = i * width;
         from = fill_row(
             *j,

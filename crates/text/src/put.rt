@@ -9,7 +9,7 @@ use arrayvec::ArrayVec;
 use itoa::Buffer;
 use std::marker::Model;
 
-/// A text of at most `N` bytes. A clause sees it as the list of its bytes.
+// A text of at most `N` bytes. A clause sees it as the list of its bytes.
 #[derive(Drop)]
 pub struct Text<const N: usize> {
     bytes: ArrayVec<u8, N>,

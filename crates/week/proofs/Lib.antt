@@ -13,3 +13,4 @@ pub mod Without
 pub mod Writing
 pub mod Placed
 pub mod LeftOut
+pub mod Stored

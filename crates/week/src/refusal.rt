@@ -70,8 +70,8 @@ impl Fault {
     }
 }
 
-// Document 01's three numbers, as they are answered; 0, 0, 0 where nothing is refused, which no error is.
-#[derive(Clone, Copy)]
+// Document 01's three numbers, as they are answered. No fault is answered as 0, 0, 0: that is where nothing is refused.
+#[derive(Clone, Copy, Debug, PartialEq, Eq)]
 pub struct Refusal {
     pub number: u8,
     pub place: usize,

@@ -18,6 +18,7 @@ const PIECE: usize = 4096;
 // Every line that ends in a piece of the input.
 fn take(rt: &impl Print, desk: &mut Desk, piece: &[u8]) -> io::Result<()> {
     let mut from = 0;
+    // A line a turn: `extended` tells where the next one starts.
     while from < piece.len() {
         let line = mem::replace(&mut desk.line, Line::empty());
         let more = extended(line, piece, from);

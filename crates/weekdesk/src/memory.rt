@@ -1,7 +1,8 @@
 // Memory that is lent to an operation.
 use lent::fill::fill;
 
-// The first `size` bytes of what there is are lent; no more of a larger size.
+// The first `size` bytes of what there is are lent; no more of a larger size. A size beside an array, since what is lent anew is not
+// appended to: each byte that was there is written over.
 #[derive(Clone, Copy)]
 pub(crate) struct Memory<const N: usize> {
     bytes: [u8; N],

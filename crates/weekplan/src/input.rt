@@ -9,6 +9,7 @@ pub(crate) fn read_sheet<R: Read>(input: &mut R, sheet: &mut [u8]) -> io::Result
     ensures { IfOk result (λ len. len ≤ length sheet.new) }
 {
     let mut len = 0;
+    // As long as more comes: a reader tells beforehand neither how often it must be asked nor how much it has.
     while len < sheet.len() {
         let more = input.read(&mut sheet[len..])?;
         if more == 0 {

@@ -90,10 +90,6 @@ module _ {line : List ℕ} {from : ℕ} {values : List ℕ} {count at : ℕ} (h 
           h.counted,
         )
 
-    -- what is left of the line gets shorter
-    pub numbered_nearer : length line - word.end < length line - at
-    numbered_nearer = omega (arith, next.forward, next.within, next.is.some)
-
     -- it is no number
     pub numbered_none : None ≡ number_of word.bytes.now → None ≡ numbers_of (words_of (drop from line))
     unfolding numbers_of are_numbers

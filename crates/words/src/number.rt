@@ -12,6 +12,7 @@ pub fn number_of(word: &[u8]) -> Option<u16>
     if word.is_empty() || MAX_DIGITS < word.len() {
         return None;
     }
+    // Digit by digit: `parse` would take a sign as well.
     let mut value: u32 = 0;
     for &b in word {
         if !b.is_ascii_digit() {

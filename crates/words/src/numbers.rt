@@ -10,7 +10,7 @@ use crate::word::next_word;
 pub const MAX_KEPT: usize = 255;
 
 // Numbers: how many there are, and the first of them. A count beside an array, since more are counted than are kept.
-#[derive(Clone, Copy)]
+#[derive(Clone, Copy, Debug, PartialEq, Eq)]
 pub struct Numbers {
     pub count: usize,
     pub values: [u16; MAX_KEPT],
@@ -21,6 +21,7 @@ pub fn numbers_from(line: &[u8], from: usize) -> Option<Numbers>
     ensures { result ≡ numbers_of (words_of (drop from line.now)) }
 {
     let mut values = [0; MAX_KEPT];
+    // Counted by hand: the words beyond those that are kept are read as well.
     let mut count = 0;
     let mut at = from;
     while let Some(word) = next_word(line, at) {

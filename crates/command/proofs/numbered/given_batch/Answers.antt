@@ -1,22 +1,26 @@
-use Prim.Native.Nat.{◌≤◌, ◌-◌, ◌/◌, ◌%◌, min}
+use Prim.Native.Nat.{◌%◌}
 use native.Mathlib.Omega.{arith}
 use mathlib.Core.Path.{◌≡◌, refl}
 use borrow.Author.Tests.{le-leb, eq-eqb}
-use Rattle.week.specs.Record.{max_recipes}
-use Rattle.arrays.proofs.Stores.{padding_step, padding_end}
-use Rattle.command.specs.Numbered.{batch_from, given_batch}
+use Rattle.arrays.proofs.Stores.{tabulated_start, tabulated_step}
+use Rattle.week.proofs.Stored.{recipe_room, recipes_stored}
+use Rattle.command.specs.Numbered.{recipe_from, batch_from, given_batch}
 use Rattle.command.proofs.numbered.given_batch.Goals as goal
+
+pub loop-k-init : goal.loop-k-init
+loop-k-init c = tabulated_start _ _ _ _ (recipe_room c.empty.ensures c.min-stored.result (omega arith))
 
 pub loop-k-preserved : goal.loop-k-preserved
 loop-k-preserved c =
-    let inv = c.loop-k.invariant in
-    (inv.0, inv.1, inv.2, inv.3, padding_step inv.4 (omega arith) refl)
+    let size = recipe_room c.empty.ensures c.min-stored.result (omega arith) in
+    tabulated_step c.loop-k.invariant (omega arith) refl
 
 pub returns : goal.returns
 unfolding batch_from given_batch
 returns c =
-    let inv = c.loop-k.invariant in
+    let stored = c.min-stored.result in
+    let size = recipe_room c.empty.ensures stored (omega arith) in
     let count = c.args.numbers.count in
-    let over : min ((count - 3) / 2) max_recipes ≤ c.loop-k.k = omega arith in
     let odd : count % 2 ≡ 1 = omega arith in
-    rw (le-leb 3 count (omega arith), eq-eqb (count % 2) 1 odd, ← padding_end inv.4 over, ← inv.0, ← inv.1, ← inv.2, ← inv.3)
+    let recipes = recipes_stored c.empty.ensures stored (omega arith) (recipe_from c.args.numbers.values) c.loop-k.invariant (omega arith) in
+    rw (recipes, c.min-stored.ensures, le-leb 3 count (omega arith), eq-eqb (count % 2) 1 odd)
