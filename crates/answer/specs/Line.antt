@@ -61,6 +61,6 @@ stretch_width = 12
 abbrev pub outcome_width : ℕ
 outcome_width = 17
 
--- the widest line of each batch, its line feed counted: `outcomes`, and sixteen that are unfinished
+-- the widest second line, its line feed counted: `outcomes`, and sixteen that are unfinished
 abbrev pub batches_width : ℕ
 batches_width = 9 + max_batches * outcome_width

@@ -1,4 +1,4 @@
--- What is answered of a line: a command, or none.
+-- A choice by its recipes, and what there is where a test holds.
 use Rattle.std.specs.Prelude.{ℕ, Bool, cond, Option, None, Some, List}
 use Rattle.command.specs.declared.command.Choice.{Choice}
 

@@ -1,3 +1,4 @@
+pub mod Widths
 pub mod Digits
 pub mod Kept
 pub mod HandedBack

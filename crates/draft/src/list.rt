@@ -43,6 +43,7 @@ fn put_recipes(text: &mut Text<MAX_LIST>, batch: Batch)
 }
 
 // `batch NUMBER R D COST WORTH ..`
+#[tactic(auto, using(std::proofs::lemmas::Grind::common_steps, crate::proofs::Widths::three_short, crate::proofs::Printed::batch_parts))]
 fn batch_line(text: &mut Text<MAX_LIST>, batch: Batch)
     requires { length text.old + batch_width ≤ max_list }
     ensures line { text.new ≡ text.old ++ batch_line batch }

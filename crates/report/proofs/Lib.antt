@@ -1,3 +1,4 @@
+pub mod Widths
 pub mod BatchLines
 pub mod Ended
 pub mod Reporting

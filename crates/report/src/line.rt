@@ -27,6 +27,7 @@ pub(crate) struct BatchLine {
 }
 
 // The second line, as "total 22 changes 4 idle 10".
+#[tactic(auto, using(std::proofs::lemmas::Grind::common_steps, crate::proofs::Widths::total_ten, crate::proofs::Widths::minutes_five))]
 pub(crate) fn total_line(text: &mut Text<MAX_TEXT>, total: u32, changes: u16, idle: u16)
     requires { length text.old + total_width ≤ max_text }
     ensures line { text.new ≡ text.old ++ total_line total changes idle }

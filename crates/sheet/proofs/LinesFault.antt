@@ -1,4 +1,4 @@
--- 16 and 17 over the lines of a sheet, as a loop over its bytes asks them.
+-- 16 and 17 over the lines of a sheet, as a loop asks them, line by line.
 use Prim.Native.Nat.{ℕ, ◌+◌, ◌-◌}
 use native.Mathlib.Numerals.{add-one}
 use mathlib.Core.Path.{◌≡◌, ◌∙◌}
