@@ -2,10 +2,10 @@
 use Prim.Native.Nat.{ℕ, ◌≤◌}
 use mathlib.Core.Path.{◌≡◌, refl}
 use mathlib.Core.List.{List}
-use Rattle.week.specs.declared.record.Week.{Week}
+use Rattle.std.proofs.lemmas.Grind.{common_steps}
 use Rattle.week.specs.declared.refusal.Fault.{Fault}
 use Rattle.week.specs.Fault.{numbers}
-use Rattle.week.specs.Record.{max_batches}
+use Rattle.week.specs.Record.{Week, max_batches}
 use Rattle.week.specs.Refusal.{accepted, answer_by}
 use Rattle.week.proofs.Answering.{answers}
 use Rattle.week.proofs.Faults.{fault_refuses}
@@ -29,3 +29,6 @@ module _ (w : Week) where
 
   pub run_most : (choice : List ℕ) (size : ℕ) → (run_answer w choice size).refusal.number ≡ 0 → w.count ≤ max_batches
   run_most choice size z = (sound w ((run_runs w choice size).0 z).0).most
+
+-- what an answer as text is found by
+pub ruleset said = (common_steps, refusal_said, passed_said, check_most, run_most)

@@ -1,4 +1,3 @@
-pub mod Named
 pub mod Widths
 pub mod Each
 pub mod Answering

@@ -10,8 +10,7 @@ use Rattle.jobs.specs.Rule.{stretch_of, fits, next_bound}
 use Rattle.jobs.specs.Best.{best}
 use Rattle.edf.specs.Run.{entries, minutes_left, first_pending, log_of, idle, changes_after, changes, up_to_last, outcome_of}
 use Rattle.edf.specs.Workload.{choice_log, workload_of, outcome_at}
-use Rattle.week.specs.declared.record.Week.{Week}
-use Rattle.week.specs.Record.{max_minutes, max_batches, empty_batch, empty_week}
+use Rattle.week.specs.Record.{Week, max_minutes, max_batches, empty_batch, empty_week}
 use Rattle.week.specs.Order.{before}
 use Rattle.week.specs.Refusal.{accepted, refused, refused_if, or_else, first_of, first, short_fault, unless_refused, answer_by, at_place}
 use Rattle.judge.specs.Fault.{week_fault, number_fault, order_fault, batch_fault, list_fault, name_fault, choice_fault}
@@ -22,7 +21,7 @@ use Rattle.planner.specs.Run.{log_fault, run_fault, week_log, log_answer, refuse
 use Rattle.planner.specs.Examples.{recipe, week_w, week_g, week_late}
 use Rattle.text.specs.Decimal.{spelt, decimal}
 use Rattle.text.specs.Line.{spaced, refusal_line}
-use Rattle.answer.specs.Line.{total_line, ran_line, outcome_fields, recipes_line, stretches_line, outcomes_line}
+use Rattle.answer.specs.Line.{total_line, ran_line, outcome_fields}
 use Rattle.answer.specs.Answer.{plan_text, check_text, run_text, ok_text, no_command_text}
 
 -- what is asked of a list, with the table and the log that are lent at the start
@@ -85,6 +84,6 @@ unfolding
     week_fault cost_fault worth_fault number_fault order_fault batch_fault list_fault name_fault choice_fault
     rule_fault check_fault passed refused_check check_answer table_fault choose_fault refused_plan plan_of choose_answer
     log_fault run_fault week_log log_answer refused_run run_answer
-    spelt decimal spaced refusal_line total_line ran_line outcome_fields recipes_line stretches_line outcomes_line
+    spelt decimal spaced refusal_line total_line ran_line outcome_fields
     plan_text check_text run_text ok_text no_command_text
 examples = refl

@@ -7,7 +7,7 @@ use Rattle.edf.specs.declared.outcome.Outcome.{Outcome}
 use Rattle.edf.specs.declared.outcome.Outcome.TheVariants.{SetAside, Finished, Unfinished}
 use Rattle.week.specs.Record.{max_batches}
 use Rattle.text.specs.Decimal.{decimal}
-use Rattle.text.specs.Line.{line_of}
+use Rattle.text.specs.Line.{line_of, counts}
 
 -- ‘`plan TOTAL`’, ‘`passed TOTAL`’
 unfoldable pub total_line : List ℕ → ℕ → List ℕ
@@ -15,7 +15,7 @@ total_line word total = line_of word (decimal total ∷ [])
 
 -- ‘`ran changes N idle N`’
 unfoldable pub ran_line : (changes idle : ℕ) → List ℕ
-ran_line changes idle = line_of (bytes "ran") (bytes "changes" ∷ decimal changes ∷ bytes "idle" ∷ decimal idle ∷ [])
+ran_line changes idle = line_of (bytes "ran") (counts changes idle)
 
 -- a word, and after it the fields of each batch, in list order
 abbrev pub each_line : {A : Type 0} → List ℕ → (A → List (List ℕ)) → List A → List ℕ
@@ -25,14 +25,14 @@ each_line word fields batches = line_of word (flatten (map fields batches))
 abbrev pub recipe_fields : ℕ → List (List ℕ)
 recipe_fields recipe = map decimal (recipe ∷ [])
 
-unfoldable pub recipes_line : List ℕ → List ℕ
+abbrev pub recipes_line : List ℕ → List ℕ
 recipes_line = each_line (bytes "recipes") recipe_fields
 
 -- ‘`stretches S E S E ..`’
 abbrev pub stretch_fields : Stretch → List (List ℕ)
 stretch_fields s = map decimal (s.start ∷ s.end ∷ [])
 
-unfoldable pub stretches_line : List Stretch → List ℕ
+abbrev pub stretches_line : List Stretch → List ℕ
 stretches_line = each_line (bytes "stretches") stretch_fields
 
 -- ‘`outcomes ..`: for each batch `aside`, `finished M` or `unfinished M`’
@@ -41,7 +41,7 @@ outcome_fields SetAside = bytes "aside" ∷ []
 outcome_fields (Finished minute) = bytes "finished" ∷ decimal minute ∷ []
 outcome_fields (Unfinished left) = bytes "unfinished" ∷ decimal left ∷ []
 
-unfoldable pub outcomes_line : List Outcome → List ℕ
+abbrev pub outcomes_line : List Outcome → List ℕ
 outcomes_line = each_line (bytes "outcomes") outcome_fields
 
 -- the widest first lines, line feeds counted: `passed 4294967295`; `ran changes 65535 idle 65535`

@@ -27,7 +27,7 @@ impl Fields for u8 {
 
     ghost width = { recipe_width };
 
-    #[tactic(auto, using(std::proofs::lemmas::Grind::common_steps, crate::proofs::Widths::recipe_short))]
+    #[tactic(auto, using(crate::proofs::Widths::short))]
     fn put_fields(self, text: &mut AnswerText) {
         text.put_numbers(&[self]);
     }
@@ -39,7 +39,7 @@ impl Fields for Stretch {
 
     ghost width = { stretch_width };
 
-    #[tactic(auto, using(std::proofs::lemmas::Grind::common_steps, crate::proofs::Widths::stretch_short))]
+    #[tactic(auto, using(crate::proofs::Widths::short))]
     fn put_fields(self, text: &mut AnswerText) {
         text.put_numbers(&[self.start, self.end]);
     }
@@ -51,7 +51,7 @@ impl Fields for Outcome {
 
     ghost width = { outcome_width };
 
-    #[tactic(auto, using(std::proofs::lemmas::Grind::common_steps, crate::proofs::Widths::decimal_five), unfolding(crate::specs::Line::outcome_fields, text::specs::Line::spaced))]
+    #[tactic(auto, using(crate::proofs::Widths::short), unfolding(crate::specs::Line::outcome_fields, text::specs::Line::spaced))]
     fn put_fields(self, text: &mut AnswerText) {
         match self {
             Outcome::SetAside => text.put(b" aside"),

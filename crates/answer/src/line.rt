@@ -21,7 +21,7 @@ pub const MAX_ANSWER: usize = RAN_WIDTH + BATCHES_WIDTH;
 pub type AnswerText = Text<MAX_ANSWER>;
 
 // `plan TOTAL`, `passed TOTAL`: a word of at most six bytes, and a total.
-#[tactic(auto, using(std::proofs::lemmas::Grind::common_steps, crate::proofs::Widths::total_short), unfolding(crate::specs::Line::total_line))]
+#[tactic(auto, using(crate::proofs::Widths::short), unfolding(crate::specs::Line::total_line))]
 pub(crate) fn total_line(text: &mut AnswerText, word: &[u8], total: u32)
     requires { (length word.now ≤ 6) × (length text.old + total_width ≤ max_answer) }
     ensures line { text.new ≡ text.old ++ total_line word.now total }
@@ -32,13 +32,12 @@ pub(crate) fn total_line(text: &mut AnswerText, word: &[u8], total: u32)
 }
 
 // `ran changes N idle N`
-#[tactic(auto, using(std::proofs::lemmas::Grind::common_steps, crate::proofs::Widths::decimal_five), unfolding(crate::specs::Line::ran_line, text::specs::Line::spaced))]
+#[tactic(auto, unfolding(crate::specs::Line::ran_line))]
 pub(crate) fn ran_line(text: &mut AnswerText, changes: u16, idle: u16)
     requires { length text.old + ran_width ≤ max_answer }
     ensures line { text.new ≡ text.old ++ ran_line changes idle }
     ensures width { length text.new ≤ length text.old + ran_width }
 {
-    text.put_named(b"ran changes", changes);
-    text.put_named(b" idle", idle);
-    text.put(b"\n");
+    text.put(b"ran");
+    text.counts(changes, idle);
 }

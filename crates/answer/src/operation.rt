@@ -1,4 +1,5 @@
-// Choose, Check and Run as text, and what the book's calls answer.
+// Choose, Check and Run as text, and what the book's calls answer. Each makes a text, puts its lines and answers it: a function over a closure
+// for that would be named beside each closure, for one line less in it.
 ghost use Rattle.std.specs.Prelude.{◌≡◌, length};
 ghost use Rattle.week.specs.Fault.{refusal_of};
 ghost use Rattle.planner.specs.Choose.{choose_answer, chosen_answer, table_after};
@@ -15,19 +16,16 @@ use week::record::Week;
 use week::refusal::Fault;
 
 // `choose`, `plan`: ‘`plan TOTAL`, then `recipes K K ..`’ of a plan for a list of n batches; or the refusal.
-#[tactic(auto, using(std::proofs::lemmas::Grind::common_steps, crate::proofs::Answering::refusal_said, crate::proofs::Answering::passed_said), unfolding(crate::specs::Answer::plan_text, crate::specs::Line::recipes_line, planner::specs::Choose::refused_plan))]
+#[tactic(auto, using(crate::proofs::Answering::said), unfolding(crate::specs::Answer::plan_text, planner::specs::Choose::refused_plan))]
 pub fn plan_text(plan: Result<Plan, Fault>, n: usize) -> AnswerText
     ensures { result ≡ plan_text n (chosen_answer plan) }
 {
-    let mut text = AnswerText::new();
-    match plan {
-        Ok(plan) => {
-            total_line(&mut text, b"plan", plan.total);
-            each_line(&mut text, b"recipes", &plan.choice[..Week::places(n)]);
-        }
-        Err(fault) => text.refusal_line(fault),
-    }
-    text
+    plan.map_or_else(AnswerText::refused, |plan| {
+        let mut text = AnswerText::new();
+        total_line(&mut text, b"plan", plan.total);
+        each_line(&mut text, b"recipes", &plan.choice[..Week::places(n)]);
+        text
+    })
 }
 
 // `choose`: the answer on every list, and every byte of the table.
@@ -39,53 +37,46 @@ pub fn choose_text(week: Week, table: &mut [u8]) -> AnswerText
 }
 
 // `check K K ..`: ‘`passed TOTAL`, then `stretches S E S E ..`’; or the refusal.
-#[tactic(auto, using(crate::proofs::Answering::refusal_said, crate::proofs::Answering::passed_said, crate::proofs::Answering::check_most), unfolding(crate::specs::Answer::check_text, crate::specs::Line::stretches_line, planner::specs::Check::refused_check))]
+#[tactic(auto, using(crate::proofs::Answering::said), unfolding(crate::specs::Answer::check_text, planner::specs::Check::refused_check))]
 pub fn check_text(week: Week, choice: &[u8]) -> AnswerText
     ensures { result ≡ check_text week.count (check_answer week choice.now) }
 {
-    let mut text = AnswerText::new();
-    match check(week, choice) {
-        Ok(checked) => {
-            total_line(&mut text, b"passed", checked.total);
-            each_line(&mut text, b"stretches", &checked.stretches[..week.count]);
-        }
-        Err(fault) => text.refusal_line(fault),
-    }
-    text
+    check(week, choice).map_or_else(AnswerText::refused, |checked| {
+        let mut text = AnswerText::new();
+        total_line(&mut text, b"passed", checked.total);
+        each_line(&mut text, b"stretches", &checked.stretches[..week.count]);
+        text
+    })
 }
 
 // `run K K ..`: ‘`ran changes N idle N`, then `outcomes ..`’, or the refusal, and every byte of the log.
-#[tactic(auto, using(crate::proofs::Answering::refusal_said, crate::proofs::Answering::passed_said, crate::proofs::Answering::run_most), unfolding(crate::specs::Answer::run_text, crate::specs::Line::outcomes_line, planner::specs::Run::refused_run))]
+#[tactic(auto, using(crate::proofs::Answering::said), unfolding(crate::specs::Answer::run_text, planner::specs::Run::refused_run))]
 pub fn run_text(week: Week, choice: &[u8], log: &mut [u8]) -> AnswerText
     ensures answer { result ≡ run_text week.count (run_answer week choice.now (length log.old)) }
     ensures log { log.new ≡ log_after week choice.now log.old }
 {
-    let mut text = AnswerText::new();
-    match run(week, choice, log) {
-        Ok(ran) => {
-            ran_line(&mut text, ran.changes, ran.idle);
-            each_line(&mut text, b"outcomes", &ran.batches[..week.count]);
-        }
-        Err(fault) => text.refusal_line(fault),
-    }
-    text
+    run(week, choice, log).map_or_else(AnswerText::refused, |ran| {
+        let mut text = AnswerText::new();
+        ran_line(&mut text, ran.changes, ran.idle);
+        each_line(&mut text, b"outcomes", &ran.batches[..week.count]);
+        text
+    })
 }
 
 // `ok`, or the refusal: what is answered of a call that opens or changes the book.
-#[tactic(auto, using(crate::proofs::Answering::refusal_said, crate::proofs::Answering::passed_said), unfolding(crate::specs::Answer::ok_text, text::specs::Line::spaced))]
+#[tactic(auto, using(crate::proofs::Answering::said), unfolding(crate::specs::Answer::ok_text, text::specs::Line::spaced))]
 pub fn ok_text(called: Result<(), Fault>) -> AnswerText
     ensures { result ≡ ok_text (refusal_of called) }
 {
-    let mut text = AnswerText::new();
-    match called {
-        Ok(()) => text.put(b"ok\n"),
-        Err(fault) => text.refusal_line(fault),
-    }
-    text
+    called.map_or_else(AnswerText::refused, |()| {
+        let mut text = AnswerText::new();
+        text.put(b"ok\n");
+        text
+    })
 }
 
 // `no command: line N`
-#[tactic(auto, using(crate::proofs::Widths::line_short), unfolding(crate::specs::Answer::no_command_text))]
+#[tactic(auto, using(crate::proofs::Widths::short), unfolding(crate::specs::Answer::no_command_text))]
 pub fn no_command_text(line: u64) -> AnswerText
     ensures { result ≡ no_command_text line }
 {

@@ -1,6 +1,5 @@
 -- A test at one of the first n indices: where it holds, where it does not, and that it asks no other index.
-use Prim.Native.Nat.{ℕ, zero, suc, ◌+◌, ◌<◌}
-use native.Mathlib.Numerals.{add-one}
+use Prim.Native.Nat.{ℕ, zero, suc, ◌<◌}
 use native.Mathlib.Decide.{ℕ_discrete}
 use native.Mathlib.Omega.{arith}
 use mathlib.Core.Path.{◌≡◌, refl, sym, ap, ap₂, ◌∙◌}
@@ -27,10 +26,6 @@ module _ (p : ℕ → Bool) where
   below_some (suc n) h =
       ⊎_elim (λ before. let at = below_some n before in (at.0, omega (arith, at.1), at.2)) (λ here. (n, omega arith, here))
       ((either_holds (some_below p n) (p n) (λ e. e, λ e. e) (λ e. e, λ e. e)).0 h)
-
-  pub none_more : (n : ℕ) → some_below p n ≡ false → p n ≡ false → some_below p (n + 1) ≡ false
-  unfolding some_below
-  none_more n before here = rw (add-one n, before) here
 
   pub some_below_lem : (n i : ℕ) → i < n → p i ≡ true → some_below p n ≡ true
   unfolding some_below

@@ -4,10 +4,8 @@ use native.Mathlib.Numerals.{add-one}
 use native.Mathlib.Omega.{arith}
 use mathlib.Core.Path.{◌≡◌, sym, ◌∙◌}
 use mathlib.Core.List.{List, ◌++◌, append_assoc}
-use lib.ListN.{length, get_or, take, drop, set, replicate}
+use lib.ListN.{length, get_or, take, drop, set}
 use lib.Seq.{length-take-le, length_front, get_or-append-add, get_or-drop, take-suc, drop-cons, set_at}
-use Rattle.arrays.specs.Made.{padded}
-use Rattle.arrays.proofs.Places.{drop-replicate}
 
 module _ {A : Type 0} (front old : List A) (n : ℕ) (size : length front ≡ n) where
   pub length_kept : n ≤ length old → length (front ++ drop n old) ≡ length old
@@ -29,8 +27,3 @@ front_step d from old i more room =
       take-suc from i d more,
       append_assoc,
     )
-
--- over an array that is d throughout, what it has written is padded
-pub front_padded : {A : Type 0} (m : ℕ) (d : A) (from : List A) (n : ℕ) → n ≤ length from → n ≤ m →
-    take n from ++ drop n (replicate m d) ≡ padded m d (take n from)
-front_padded m d from n some most = rw (drop-replicate n m d most, length-take-le n from some)

@@ -9,6 +9,7 @@ pub mod Stores
 pub mod Maps
 pub mod Patches
 pub mod Front
+pub mod Back
 pub mod Flattened
 pub mod Sums
 pub mod OwnedArrays

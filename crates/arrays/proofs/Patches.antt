@@ -1,29 +1,14 @@
--- Lists of which a range of entries is changed: one store more, the same said of a wider range; and a loop that changes them so.
-use Prim.Native.Nat.{ℕ, ◌+◌, ◌≤◌, ◌<◌, max}
+-- Lists of which a range of entries is changed: the same said of a wider range; and a loop that changes them so.
+use Prim.Native.Nat.{ℕ, ◌≤◌, ◌<◌, max}
 use native.Mathlib.Decide.{dec_le, dec_lt}
 use native.Mathlib.Omega.{arith}
-use mathlib.Core.Path.{◌≡◌, refl, ◌∙◌}
+use mathlib.Core.Path.{◌≡◌, ◌∙◌}
 use mathlib.Core.Logic.{◌⊎◌, inl, inr, ⊎_elim}
 use mathlib.Core.List.{List}
-use lib.ListN.{length, get_or, set, length-set}
-use lib.Seq.{get_or-set_other}
+use lib.ListN.{get_or}
 use Rattle.arrays.specs.Patched.{Patched}
-use Rattle.arrays.proofs.Stores.{set_each}
-
-patched_start : (g : ℕ → ℕ) (a : ℕ) (old : List ℕ) → Patched g a a old old
-patched_start g a old = record { size = refl; done = λ m l u. absurd (omega arith); kept = λ m out. refl }
 
 module _ {g : ℕ → ℕ} {a b : ℕ} {old new : List ℕ} (h : Patched g a b old new) where
-  patched_step : a ≤ b → b < length old → {x : ℕ} → x ≡ g b → Patched g a (b + 1) old (set new b x)
-  patched_step from low {x} e =
-      record {
-        size = length-set new b x ∙ h.size;
-        done =
-            set_each 0 new b x (omega (arith, h.size)) (λ m y. a ≤ m → m < b + 1 → y ≡ g m) (λ l u. e)
-            (λ m n l u. h.done m l (omega arith));
-        kept = λ m out. get_or-set_other new b m x 0 (λ q. out (omega arith)) ∙ h.kept m (λ i. out (omega arith));
-      }
-
   pub patched_same : {g' : ℕ → ℕ} → ((m : ℕ) → a ≤ m → m < b → g m ≡ g' m) → Patched g' a b old new
   patched_same same = record { size = h.size; done = λ m l u. h.done m l u ∙ same m l u; kept = h.kept }
 
@@ -58,18 +43,7 @@ pub record Patching (g : ℕ → ℕ) (a b : ℕ) (old new : List ℕ) (m : ℕ)
   pub to : m ≤ max a b
   pub patched : Patched g a m old new
 
-pub patching_start : (g : ℕ → ℕ) (a b : ℕ) (old : List ℕ) → Patching g a b old old a
-patching_start g a b old = record { from = omega arith; to = omega arith; patched = patched_start g a old }
-
 module _ {g : ℕ → ℕ} {a b : ℕ} {old new : List ℕ} {m : ℕ} (h : Patching g a b old new m) where
-  -- the entry that is next
-  pub patching_stood : get_or new m 0 ≡ get_or old m 0
-  patching_stood = h.patched.kept m (λ i. omega arith)
-
-  pub patching_step : m < b → m < length old → {x : ℕ} → x ≡ g m → Patching g a b old (set new m x) (m + 1)
-  patching_step more low e =
-      record { from = omega (arith, h.from); to = omega (arith, h.from); patched = patched_step h.patched h.from low e }
-
   pub patching_end : b ≤ m → Patched g a b old new
   patching_end over =
       patched_widen h.patched a b (λ i l u. omega (arith, h.to))

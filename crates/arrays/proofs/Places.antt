@@ -1,12 +1,11 @@
 -- Lists that stand last first, and the arrays that hold them in list order: laws over any elements.
-use Prim.Native.Nat.{ℕ, zero, suc, ◌+◌, ◌-◌, ◌≤◌, ◌<◌, min}
-use native.Mathlib.Decide.{dec_lt}
+use Prim.Native.Nat.{ℕ, zero, suc, ◌+◌, ◌-◌, ◌≤◌, ◌<◌}
 use native.Mathlib.Omega.{arith}
 use mathlib.Core.Path.{◌≡◌, refl, sym, ap, ap₂, subst, ◌∙◌}
 use mathlib.Core.List.{List, [], ◌∷◌, ◌++◌, append_assoc}
 use lib.ListN.{length, get_or, take, drop, set, replicate, length-append, length-take, length-replicate, replicate-append-replicate}
 use lib.ListN.{get_or-eq_default}
-use lib.Seq.{length-take-le, get_or_at, get_or-take, take_all, drop_at, set_at, ext_get_or}
+use lib.Seq.{length-take-le, get_or_at, get_or-take, drop_at, set_at, ext_get_or}
 use Rattle.arrays.specs.Position.{at_position, backward, forward}
 use Rattle.arrays.specs.Made.{padded, placed}
 
@@ -59,16 +58,6 @@ module _ {A : Type 0} where
   -- the entries of the array are those of the list, and d past it
   pub padded_at : (m : ℕ) (d : A) (xs : List A) (i : ℕ) → get_or (padded m d xs) i d ≡ get_or xs i d
   padded_at m d xs i = append-replicate_at xs (m - length xs) d i
-
-  -- no more can be taken than there are
-  pub take_within : (n m : ℕ) (xs : List A) → length xs ≡ m → take (min n m) xs ≡ take n xs
-  take_within n m xs size =
-      elim (dec_lt m n) [
-        | yes over ↦
-            let all : min n m ≡ m = omega arith in
-            rw all (take_all m xs (omega arith) ∙ sym (take_all n xs (omega arith)))
-        | no within ↦ let same : min n m ≡ n = omega arith in rw same
-      ]
 
   -- the first of the array are the first of the list, padded
   pub take_padded : (n m : ℕ) (d : A) (xs : List A) → n ≤ m → take n (padded m d xs) ≡ padded n d (take n xs)

@@ -1,15 +1,15 @@
--- An array that a loop fills, one store a turn, with the entries of another: in any order, and from the front by a function, the
--- whole of it or as far as a count.
+-- An array that a loop fills, one store a turn, with the entries of another: in any order, and from the front by a function, as far as a
+-- count.
 use Prim.Native.Nat.{ℕ, ◌+◌, ◌-◌, ◌≤◌, ◌<◌}
 use native.Mathlib.Decide.{ℕ_discrete}
 use native.Mathlib.Omega.{arith}
-use mathlib.Core.Path.{◌≡◌, sym, ap, ◌∙◌}
+use mathlib.Core.Path.{◌≡◌, ap, ◌∙◌}
 use mathlib.Core.List.{List}
 use lib.ListN.{length, get_or, set, replicate, length-set, length-replicate}
 use lib.Seq.{get_or-set_same, get_or-set_other, ext_get_or}
 use Rattle.arrays.specs.Made.{tabulate, padded}
 use Rattle.arrays.proofs.Places.{padded_set}
-use Rattle.arrays.proofs.Tabulates.{length_tabulate, tabulate_at, tabulate_more, tabulate_same}
+use Rattle.arrays.proofs.Tabulates.{length_tabulate, tabulate_more}
 
 module _ {A : Type 0} where
   -- what holds of the entry that is stored at i, and of every other, holds of each
@@ -40,40 +40,6 @@ module _ {A : Type 0} where
   pub filled_all : (d : A) (to : List A) (P : ℕ → Type 0) (array : List A) → ((k : ℕ) → k < length to → P k) →
       Filled d to P array → array ≡ to
   filled_all d to P array all h = ext_get_or d array to h.size (λ k l. h.done k (all k (omega (arith, h.size))))
-
-  -- the array, of m, has f below i
-  pub record Tabulated (f : ℕ → A) (m : ℕ) (d : A) (i : ℕ) (array : List A) : Type 0 where
-    pub within : i ≤ m
-    pub filled : Filled d (tabulate f 0 m) (λ k. k < i) array
-
-  pub tabulated_start : (f : ℕ → A) (m : ℕ) (d : A) (array : List A) → length array ≡ m → Tabulated f m d 0 array
-  tabulated_start f m d array e =
-      record {
-        within = omega arith;
-        filled = record { size = e ∙ sym (length_tabulate f 0 m); done = λ k l. absurd (omega arith) };
-      }
-
-  module _ {f : ℕ → A} {m : ℕ} {d : A} {i : ℕ} {array : List A} (h : Tabulated f m d i array) where
-    pub tabulated_step : i < m → {a : A} → a ≡ f i → Tabulated f m d (i + 1) (set array i a)
-    tabulated_step more {a} e =
-        record {
-          within = omega arith;
-          filled =
-              filled_step d (tabulate f 0 m) (λ k. k < i) (λ k. k < i + 1) i array a (omega (arith, length_tabulate f 0 m))
-              (e ∙ sym (tabulate_at f m i d more)) (λ k q n. omega arith) h.filled;
-        }
-
-    pub tabulated_end : m ≤ i → array ≡ tabulate f 0 m
-    tabulated_end over =
-        filled_all d (tabulate f 0 m) (λ k. k < i) array (λ k l. omega (arith, length_tabulate f 0 m)) h.filled
-
-  -- an array that is set to a throughout
-  module _ {a d : A} {m i : ℕ} {array : List A} (h : Tabulated (λ k. a) m d i array) where
-    pub reset_size : length array ≡ m
-    reset_size = h.filled.size ∙ length_tabulate (λ k. a) 0 m
-
-    pub reset_end : m ≤ i → array ≡ replicate m a
-    reset_end over = tabulated_end h over ∙ tabulate_same a 0 m
 
   -- the array, of m, has f below i and d from there on; it is to have f below n
   pub record Padding (f : ℕ → A) (m : ℕ) (d : A) (n i : ℕ) (array : List A) : Type 0 where

@@ -1,11 +1,8 @@
 -- Sums over positions 1 to i: what they say of their numbers, and how two of them compare.
-use Prim.Native.Nat.{ℕ, zero, suc, ◌+◌, ◌≤◌, ◌<◌}
+use Prim.Native.Nat.{ℕ, zero, suc, ◌≤◌, ◌<◌}
 use native.Mathlib.Decide.{ℕ_discrete, dec_le}
 use native.Mathlib.Omega.{arith}
 use mathlib.Core.Path.{◌≡◌, ap}
-use mathlib.Core.Bool.{cond}
-use lib.Dec.{eqb}
-use borrow.Author.Tests.{eq-eqb, ne_eqb}
 use Rattle.arrays.specs.Sum.{sum_to}
 
 -- a number of positions 1 to i is at most their sum
@@ -55,27 +52,6 @@ sum_longer f i (suc n) within =
     elim (ℕ_discrete i (suc n)) [
       | yes e ↦ rw e (omega arith)
       | no other ↦ omega (arith, sum_longer f i n (omega arith))
-    ]
-
--- numbers that are at most others, but for one more at k, sum to at most one more
-pub sum_one : (f g : ℕ → ℕ) (k i : ℕ) → ((j : ℕ) → 1 ≤ j → j ≤ i → f j ≤ g j + cond (eqb k j) 1 0) → sum_to f i ≤ sum_to g i + 1
-unfolding sum_to
-sum_one f g k zero each = omega arith
-sum_one f g k (suc i) each =
-    elim (ℕ_discrete k (suc i)) [
-      | yes e ↦
-          omega (
-            arith,
-            sum_le f g i (λ j low high.
-                omega (arith, rw (ne_eqb k j (λ same. omega arith)) at (each j low (omega arith)))),
-            rw (eq-eqb k (suc i) e) at (each (suc i) (omega arith) (omega arith)),
-          )
-      | no other ↦
-          omega (
-            arith,
-            sum_one f g k i (λ j low high. each j low (omega arith)),
-            rw (ne_eqb k (suc i) other) at (each (suc i) (omega arith) (omega arith)),
-          )
     ]
 
 -- a sum that is not 0 has a number that is not

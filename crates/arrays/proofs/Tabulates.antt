@@ -59,8 +59,3 @@ module _ {A : Type 0} where
   pub tabulate_all : (P : A → Type 0) (f : ℕ → A) → ((i : ℕ) → P (f i)) → (a m : ℕ) → All P (tabulate f a m)
   tabulate_all P f each a zero = tt
   tabulate_all P f each a (suc m) = (each a, tabulate_all P f each (suc a) m)
-
-  -- the same throughout
-  pub tabulate_same : (a : A) (from n : ℕ) → tabulate (λ i. a) from n ≡ replicate n a
-  tabulate_same a from zero = refl
-  tabulate_same a from (suc n) = ap (λ (l : List A). a ∷ l) (tabulate_same a (suc from) n)

@@ -3,14 +3,13 @@ use Prim.Native.Nat.{ℕ}
 use mathlib.Core.Path.{◌≡◌, sym}
 use Rattle.std.proofs.Common.{Result, Ok, Err, IfOk}
 use Rattle.week.specs.declared.record.Batch.{Batch}
-use Rattle.week.specs.declared.record.Week.{Week}
 use Rattle.week.specs.declared.refusal.Fault.{Fault}
 use Rattle.week.specs.declared.refusal.Refusal.{Refusal}
 use Rattle.week.specs.Refusal.{accepted}
 use Rattle.week.specs.Fault.{numbers, refusal_of}
 use Rattle.week.specs.Order.{insert_in}
 use Rattle.week.specs.Numbers.{without}
-use Rattle.week.specs.Record.{empty_week}
+use Rattle.week.specs.Record.{Week, empty_week}
 use Rattle.week.specs.Written.{written}
 use Rattle.planner.specs.Choose.{ChooseAnswer, refused_plan, choose_answer}
 use Rattle.book.specs.declared.book.Book.{Book}

@@ -9,9 +9,8 @@ use mathlib.Core.List.{List, [], ◌∷◌, ◌++◌, map}
 use lib.ListN.{length}
 use Rattle.arrays.specs.Rearranged.{Perm}
 use Rattle.week.specs.declared.record.Batch.{Batch}
-use Rattle.week.specs.declared.record.Week.{Week}
 use Rattle.week.specs.declared.refusal.Refusal.{Refusal}
-use Rattle.week.specs.Record.{max_minutes, max_batches, empty_week}
+use Rattle.week.specs.Record.{Week, max_minutes, max_batches, empty_week}
 use Rattle.week.specs.Refusal.{accepted, refused, refused_if, or_else, first_of, first}
 use Rattle.week.specs.RefusalOrder.{one_of}
 use Rattle.week.specs.Order.{InOrder, ordered}

@@ -11,10 +11,9 @@ use lib.ListN.{length}
 use borrow.Author.Tests.{le-leb, lt-leb, le-ltb, eq-eqb, ne_eqb}
 use Rattle.arrays.specs.Each.{some_below}
 use Rattle.week.specs.declared.record.Batch.{Batch}
-use Rattle.week.specs.declared.record.Week.{Week}
 use Rattle.week.specs.declared.refusal.Fault.{Fault}
 use Rattle.week.specs.declared.refusal.Refusal.{Refusal}
-use Rattle.week.specs.Record.{max_batches, empty_week}
+use Rattle.week.specs.Record.{Week, max_batches, empty_week}
 use Rattle.week.specs.Refusal.{accepted, refused, refused_if, first_of, first, at_place}
 use Rattle.week.specs.Fault.{numbers, place_in, refusal_of}
 use Rattle.week.specs.Order.{Sorted}
@@ -65,7 +64,7 @@ placed_proper : (place : ℕ) (rs : List Refusal) → Proper (at_place place (fi
 placed_proper place rs = rw (place_each place rs) (first_of_proper _)
 
 -- what a list of it has against it, in place 1: 10 never holds of the first batch
-alone_fault : (t c : ℕ) (b : Batch) → open_fault t c ≡ accepted →
+pub alone_fault : (t c : ℕ) (b : Batch) → open_fault t c ≡ accepted →
     list_fault (written t c (b ∷ [])) ≡ at_place 1 (first_of (new_faults c [] b))
 unfolding list_fault first batch_fault first_of number_fault order_fault refused_if some_below
 alone_fault t c b minutes =
@@ -220,7 +219,7 @@ pub well_sorted : (w : Week) → length w.batches ≡ max_batches → WellFormed
 well_sorted w long list = in_order_sorted w.opening (batches_of w) ((list_fit w long).0 list).2
 
 -- ---- what decides of a batch that is new, and of a call that joins or leaves
-pub ruleset new_decides = (formed_opens, new_alone, new_taken, new_free, fault_refuses)
+pub ruleset new_decides = (new_alone, new_taken, new_free, fault_refuses)
 
 pub ruleset add_decides = (add_list, add_full, add_new, well_sorted, fault_refuses)
 

@@ -2,19 +2,18 @@
 -- accepted hands back a list freshly written.
 use Rattle.std.specs.Prelude.{ℕ, List, Result, Ok, Err}
 use Rattle.week.specs.declared.record.Batch.{Batch}
-use Rattle.week.specs.declared.record.Week.{Week}
 use Rattle.week.specs.declared.refusal.Fault.{Fault}
 use Rattle.week.specs.declared.refusal.Refusal.{Refusal}
-use Rattle.week.specs.Record.{empty_week}
+use Rattle.week.specs.Record.{Week, empty_week}
 use Rattle.week.specs.Refusal.{accepted, unless_refused, answer_by}
 use Rattle.week.specs.Fault.{numbers, refusal_of}
 use Rattle.week.specs.Order.{insert_in}
 use Rattle.week.specs.Numbers.{without}
 use Rattle.week.specs.Written.{batches_of, written}
+use Rattle.planner.specs.declared.choose.Plan.{Plan}
 use Rattle.planner.specs.Choose.{ChooseAnswer, chosen_answer, choose_answer}
 use Rattle.book.specs.declared.book.Book.{Book}
 use Rattle.book.specs.declared.book.Answered.{Answered}
-use Rattle.book.specs.declared.plan.Planned.{Planned}
 use Rattle.book.specs.Fault.{open_fault, add_fault, withdraw_fault}
 
 -- what a call that opens or changes a book answers: a refusal's three numbers, and the book
@@ -23,7 +22,7 @@ pub record CallAnswer : Type 0 where
   pub book : Book
 
 -- the answer that the code's result and book are
-abbrev pub answered : Answered → CallAnswer
+abbrev pub answered : Answered (Unit {0}) → CallAnswer
 answered a = record { refusal = refusal_of a.result; book = a.book }
 
 -- an empty book of a week
@@ -68,8 +67,8 @@ pub record PlanAnswer : Type 0 where
   pub book : Book
 
 -- the answer that the code's result and book are
-abbrev pub planned : Planned → PlanAnswer
-planned p = record { plan = chosen_answer p.plan; book = p.book }
+abbrev pub planned : Answered Plan → PlanAnswer
+planned a = record { plan = chosen_answer a.result; book = a.book }
 
 -- "plan": as Choose answers, with a table of a size
 unfoldable pub plan_answer : Book → ℕ → PlanAnswer

@@ -7,9 +7,8 @@ use Rattle.jobs.specs.Rule.{stretch_of, fits, next_bound}
 use Rattle.jobs.specs.Best.{best}
 use Rattle.week.specs.declared.record.Recipe.{Recipe}
 use Rattle.week.specs.declared.record.Batch.{Batch}
-use Rattle.week.specs.declared.record.Week.{Week}
 use Rattle.week.specs.declared.refusal.Refusal.{Refusal}
-use Rattle.week.specs.Record.{max_batches, batch_at}
+use Rattle.week.specs.Record.{Week, max_batches, batch_at}
 use Rattle.week.specs.Order.{before, insert_in}
 use Rattle.week.specs.Numbers.{is_held, without}
 use Rattle.week.specs.Written.{written}

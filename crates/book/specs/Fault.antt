@@ -2,9 +2,8 @@
 -- a history can speak of it without a book.
 use Rattle.std.specs.Prelude.{ℕ, not, List, [], ◌∷◌, ◌++◌, length, leb}
 use Rattle.week.specs.declared.record.Batch.{Batch}
-use Rattle.week.specs.declared.record.Week.{Week}
 use Rattle.week.specs.declared.refusal.Refusal.{Refusal}
-use Rattle.week.specs.Record.{max_batches}
+use Rattle.week.specs.Record.{Week, max_batches}
 use Rattle.week.specs.Refusal.{refused_if, first_of}
 use Rattle.week.specs.Numbers.{number_in, is_held}
 use Rattle.week.specs.Written.{batches_of}

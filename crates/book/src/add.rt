@@ -1,11 +1,11 @@
 // One batch more, put in order.
 ghost use Rattle.std.specs.Prelude.{◌≡◌, [], IfOk};
-ghost use Rattle.week.specs.Refusal.{accepted, first_of};
+ghost use Rattle.week.specs.Refusal.{first_of};
 ghost use Rattle.week.specs.Fault.{refusal_of};
 ghost use Rattle.week.specs.Order.{insert_in};
 ghost use Rattle.week.specs.Written.{batches_of, written};
 ghost use Rattle.judge.specs.Fault.{WellFormed};
-ghost use Rattle.book.specs.Fault.{open_fault, new_faults, add_fault};
+ghost use Rattle.book.specs.Fault.{new_faults, add_fault};
 ghost use Rattle.book.specs.Answer.{answered, add_answer};
 
 use crate::book::{Answered, Book};
@@ -15,12 +15,12 @@ use week::record::{Batch, Week};
 use week::refusal::{Fault, Reason};
 use week::written::with_batch;
 
-// 4 to 9 of a batch that stands alone in a week: what a list of that batch has against it, naming no place.
-fn accept_alone(opening: u16, closing: u16, batch: Batch) -> Result<(), Fault>
-    requires { open_fault opening closing ≡ accepted }
-    ensures { refusal_of result ≡ first_of (new_faults closing [] batch) }
+// 4 to 9 of a batch that stands alone in the week of a list: what a list of that batch has against it, naming no place.
+fn accept_alone(list: Week, batch: Batch) -> Result<(), Fault>
+    requires { WellFormed list }
+    ensures { refusal_of result ≡ first_of (new_faults list.closing [] batch) }
 {
-    let alone = with_batch(Week::empty(opening, closing), batch);
+    let alone = with_batch(Week::empty(list.opening, list.closing), batch);
     accept_list(alone).map_err(|fault| fault.in_place(0))
 }
 
@@ -30,7 +30,7 @@ fn accept_new(list: Week, batch: Batch) -> Result<(), Fault>
     requires { WellFormed list }
     ensures { refusal_of result ≡ first_of (new_faults list.closing (batches_of list) batch) }
 {
-    accept_alone(list.opening, list.closing, batch)?;
+    accept_alone(list, batch)?;
     if is_held(list.listed(), batch.number) {
         return Err(Fault::of(Reason::NumberTaken));
     }
@@ -53,7 +53,7 @@ fn added(list: Week, batch: Batch) -> Result<Week, Fault>
 
 // The answer on every book and every batch.
 #[tactic(auto, using(crate::proofs::Answering::add_changes))]
-pub fn add(book: Book, batch: Batch) -> Answered
+pub fn add(book: Book, batch: Batch) -> Answered<()>
     ensures { answered result ≡ add_answer book batch }
 {
     book.answer(added(book.list, batch))

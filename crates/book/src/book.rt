@@ -10,16 +10,16 @@ pub struct Book {
     pub list: Week,
 }
 
-// Document 02: "Each call hands the book back", a refused one too, so that it stands beside the result.
+// Document 02: "Each call hands the book back", a refused one too, so that it stands beside what the call answers.
 #[derive(Clone, Copy, Debug, PartialEq, Eq)]
-pub struct Answered {
-    pub result: Result<(), Fault>,
+pub struct Answered<T> {
+    pub result: Result<T, Fault>,
     pub book: Book,
 }
 
 impl Book {
     // A call's answer: "a refused call leaves the book", and an accepted one hands back the list that it makes.
-    pub(crate) fn answer(self, list: Result<Week, Fault>) -> Answered
+    pub(crate) fn answer(self, list: Result<Week, Fault>) -> Answered<()>
         ensures { answered result ≡ changed self list }
     {
         match list {

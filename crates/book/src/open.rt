@@ -23,7 +23,7 @@ fn opened(opening: u16, closing: u16) -> Result<Week, Fault>
 
 // The answer on every input.
 #[tactic(auto, using(crate::proofs::Answering::open_changes))]
-pub fn open(opening: u16, closing: u16) -> Answered
+pub fn open(opening: u16, closing: u16) -> Answered<()>
     ensures { answered result ≡ open_answer opening closing }
 {
     let none = Book {

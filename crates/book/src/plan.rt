@@ -3,32 +3,22 @@ ghost use Rattle.std.specs.Prelude.{◌≡◌, length};
 ghost use Rattle.planner.specs.Choose.{table_after};
 ghost use Rattle.book.specs.Answer.{planned, plan_answer};
 
-use crate::book::Book;
+use crate::book::{Answered, Book};
 use planner::choose::{Plan, choose};
-use week::refusal::Fault;
 use week::written::fresh;
-
-#[derive(Clone, Copy, Debug, PartialEq, Eq)]
-pub struct Planned {
-    pub plan: Result<Plan, Fault>,
-    pub book: Book,
-}
 
 // The answer and every byte of the table at exit, on every book and every table.
 #[tactic(auto, using(crate::proofs::Answering::plan_passed, crate::proofs::Answering::plan_failed))]
-pub fn plan(book: Book, table: &mut [u8]) -> Planned
+pub fn plan(book: Book, table: &mut [u8]) -> Answered<Plan>
     ensures answer { planned result ≡ plan_answer book (length table.old) }
     ensures table { table.new ≡ table_after book.list table.old }
 {
-    let list = book.list;
-    match choose(list, table) {
-        Ok(plan) => Planned {
-            plan: Ok(plan),
-            book: Book { list: fresh(list) },
+    let result = choose(book.list, table);
+    let book = match result {
+        Ok(_) => Book {
+            list: fresh(book.list),
         },
-        Err(fault) => Planned {
-            plan: Err(fault),
-            book,
-        },
-    }
+        Err(_) => book,
+    };
+    Answered { result, book }
 }

@@ -28,7 +28,7 @@ fn withdrawn(list: Week, number: u16) -> Result<Week, Fault>
 
 // The answer on every book and every number.
 #[tactic(auto, using(crate::proofs::Answering::withdraw_changes))]
-pub fn withdraw(book: Book, number: u16) -> Answered
+pub fn withdraw(book: Book, number: u16) -> Answered<()>
     ensures { answered result ≡ withdraw_answer book number }
 {
     book.answer(withdrawn(book.list, number))

@@ -1,9 +1,9 @@
 -- Numbers that lend memory: `SIZE V` or `SIZE`.
 use Prim.Native.Nat.{ℕ, ◌≤◌, ◌<◌}
 use mathlib.Core.Path.{◌≡◌}
-use mathlib.Core.Bool.{true, false, ◌&&◌, and-eq-true_iff}
+use mathlib.Core.Bool.{true, false}
 use lib.Dec.{leb}
-use borrow.Author.Tests.{leb-true, le-leb, lt-leb}
+use borrow.Author.Tests.{le-leb, lt-leb}
 use Rattle.words.specs.declared.numbers.Numbers.{Numbers}
 use Rattle.command.specs.Numbered.{value_at, max_byte, lends_up_to}
 
@@ -17,10 +17,3 @@ module _ (most : ℕ) (numbers : Numbers) where
     pub lends_large : most < value_at numbers.values 0 → lends_up_to most numbers ≡ false
     unfolding lends_up_to
     lends_large size = simp (some, few, lt-leb _ _ size)
-
-  -- the value is a byte
-  pub byte_lent : lends_up_to most numbers ≡ true → value_at numbers.values 1 ≤ max_byte
-  unfolding lends_up_to
-  byte_lent lends =
-      let before = leb 1 numbers.count && leb numbers.count 2 && leb (value_at numbers.values 0) most in
-      leb-true _ _ ((and-eq-true_iff before _).0 lends).1

@@ -30,8 +30,8 @@ minutes command words = asked (λ values. command (value_at values 0) (value_at 
 unfoldable pub named : Name → List (List ℕ) → Option Command
 named name.Week words = minutes command.Week words
 named name.Batch words = asked command.Batch given_batch words
-named name.Table words = asked (λ lent. command.Table lent.0 lent.1) (given_memory max_table) words
-named name.Log words = asked (λ lent. command.Log lent.0 lent.1) (given_memory max_log) words
+named name.Table words = asked command.Table (given_memory max_table) words
+named name.Log words = asked command.Log (given_memory max_log) words
 named name.Choose words = alone command.Choose words
 named name.Check words = asked command.Check given_choice words
 named name.Run words = asked command.Run given_choice words

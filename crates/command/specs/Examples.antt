@@ -13,6 +13,7 @@ use Rattle.words.specs.Word.{joined, parts_of, some_bytes, words_of}
 use Rattle.words.specs.Number.{are_digits, is_number, number_of}
 use Rattle.words.specs.Numbers.{are_numbers, numbers_of}
 use Rattle.command.specs.declared.command.Choice.{Choice}
+use Rattle.command.specs.declared.command.Lent.{Lent}
 use Rattle.command.specs.declared.command.Command.{Command}
 use Rattle.command.specs.declared.command.Command.TheVariants.{Nothing, Week, Batch as OneBatch, Table, Log, Choose, Check}
 use Rattle.command.specs.declared.command.Command.TheVariants.{Run, ShowTable, ShowLog, List as TheList, Sheet, Open, Add}
@@ -37,8 +38,8 @@ abbrev command_numbers : Command → List ℕ
 command_numbers Nothing = 0 ∷ []
 command_numbers (Week opening closing) = 2 ∷ opening ∷ closing ∷ []
 command_numbers (OneBatch batch) = 3 ∷ batch_numbers batch
-command_numbers (Table size value) = 4 ∷ size ∷ value ∷ []
-command_numbers (Log size value) = 5 ∷ size ∷ value ∷ []
+command_numbers (Table lent) = 4 ∷ lent.size ∷ lent.value ∷ []
+command_numbers (Log lent) = 5 ∷ lent.size ∷ lent.value ∷ []
 command_numbers Choose = 6 ∷ []
 command_numbers (Check choice) = 7 ∷ choice_numbers choice
 command_numbers (Run choice) = 8 ∷ choice_numbers choice
@@ -53,6 +54,10 @@ command_numbers Plan = 16 ∷ []
 command_numbers Book = 17 ∷ []
 command_numbers Hold = 18 ∷ []
 command_numbers Help = 19 ∷ []
+
+-- so many bytes that are lent, each this value
+abbrev lent : ℕ → ℕ → Lent
+lent size value = record { size = size; value = value }
 
 abbrev numbers : Option Command → List ℕ
 numbers (Some command) = command_numbers command
@@ -103,9 +108,9 @@ table =
     ∷ ("batch 8 20 60" asks OneBatch (a_batch 8 20 60 0 []))
     ∷ (ones "batch" 25 means OneBatch (a_batch 1 1 1 11 (replicate 10 (1 for 1))))
     -- what is lent: ‘V may be left out and is 0 then’; ‘At most 40,000 and 4,000 bytes’
-    ∷ ("table 303 9" asks Table 303 9)
-    ∷ ("table 40000 255" asks Table 40000 255)
-    ∷ ("log 4000" asks Log 4000 0)
+    ∷ ("table 303 9" asks Table (lent 303 9))
+    ∷ ("table 40000 255" asks Table (lent 40000 255))
+    ∷ ("log 4000" asks Log (lent 4000 0))
     ∷ (not_one "table 40001")
     ∷ (not_one "log 4001")
     ∷ (not_one "log 100 256")

@@ -7,6 +7,7 @@ use Rattle.week.specs.Record.{max_recipes, no_recipe}
 use Rattle.words.specs.declared.numbers.Numbers.{Numbers}
 use Rattle.words.specs.Numbers.{max_kept}
 use Rattle.command.specs.declared.command.Choice.{Choice}
+use Rattle.command.specs.declared.command.Lent.{Lent}
 use Rattle.command.specs.Record.{choice_of, some_if}
 
 -- the number of an index, from 0; 0 where there is none
@@ -48,8 +49,9 @@ lends_up_to most numbers =
     leb 1 numbers.count && leb numbers.count 2
     && leb (value_at numbers.values 0) most && leb (value_at numbers.values 1) max_byte
 
-unfoldable pub given_memory : ℕ → Numbers → Option (ℕ × ℕ)
-given_memory most numbers = some_if (lends_up_to most numbers) (value_at numbers.values 0, value_at numbers.values 1)
+unfoldable pub given_memory : ℕ → Numbers → Option Lent
+given_memory most numbers =
+    some_if (lends_up_to most numbers) (record { size = value_at numbers.values 0; value = value_at numbers.values 1 })
 
 -- ‘check K K ..’, ‘run K K ..’: ‘A recipe number in a choice .. is at most 255; a choice has at most 255 of them, and may have none’
 unfoldable pub are_bytes : List ℕ → Bool

@@ -4,21 +4,27 @@ use week::record::Batch;
 use words::numbers::MAX_KEPT;
 
 // A choice, as it is handed in: the recipe of each batch.
-#[derive(Drop)]
+#[derive(Drop, Clone, Debug, PartialEq, Eq)]
 pub struct Choice {
     pub recipes: ArrayVec<u8, MAX_KEPT>,
 }
 
+// What is lent, a picks table or a log: so many bytes, each of them the value.
+#[derive(Clone, Copy, Debug, PartialEq, Eq)]
+pub struct Lent {
+    pub size: usize,
+    pub value: u8,
+}
+
 // What a line asks for.
-#[derive(Drop)]
+#[derive(Drop, Clone, Debug, PartialEq, Eq)]
 pub enum Command {
     // An empty line, or a comment.
     Nothing,
     Week { opening: u16, closing: u16 },
     Batch(Batch),
-    // A picks table or a log of a size, each of its bytes the same value.
-    Table { size: usize, value: u8 },
-    Log { size: usize, value: u8 },
+    Table(Lent),
+    Log(Lent),
     Choose,
     Check(Choice),
     Run(Choice),

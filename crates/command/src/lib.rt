@@ -6,7 +6,7 @@ mod name;
 mod numbered;
 mod show;
 
-ghost use Rattle.std.specs.Prelude.{◌≡◌, drop};
+ghost use Rattle.std.specs.Prelude.{◌≡◌};
 ghost use Rattle.words.specs.Word.{words_of};
 ghost use Rattle.command.specs.Command.{named, is_comment, command_in, command_of};
 
@@ -16,35 +16,28 @@ use crate::numbered::{alone, exactly, given_batch, given_choice, given_memory};
 use crate::show::show_command;
 use lent::{MAX_LOG, MAX_TABLE};
 use words::line::{Line, MAX_LINE};
-use words::numbers::numbers_from;
-use words::word::next_word;
+use words::numbers::numbers_of;
+use words::word::Words;
 
-const COMMENT: u8 = b'#';
-
-// The command of a name, with what stands after it on the line.
+// The command of a name, with what stands after it on the line. Where `exactly` is asked, `let` and no `.map(|[opening, closing]| ..)`: its
+// length would have to stand beside the closure too, on as many lines.
 #[tactic(auto, unfolding(crate::specs::Command::named))]
-fn command_named(name: Name, line: &[u8], at: usize) -> Option<Command>
-    ensures { result ≡ named name (words_of (drop at line.now)) }
+fn command_named(name: Name, rest: &[u8]) -> Option<Command>
+    ensures { result ≡ named name (words_of rest.now) }
 {
-    let numbers = numbers_from(line, at);
+    let numbers = numbers_of(rest);
     match name {
         Name::Week => {
             let [opening, closing] = exactly::<2>(numbers?)?;
             Some(Command::Week { opening, closing })
         }
         Name::Batch => given_batch(numbers?).map(Command::Batch),
-        Name::Table => {
-            let (size, value) = given_memory(MAX_TABLE, numbers?)?;
-            Some(Command::Table { size, value })
-        }
-        Name::Log => {
-            let (size, value) = given_memory(MAX_LOG, numbers?)?;
-            Some(Command::Log { size, value })
-        }
+        Name::Table => given_memory(MAX_TABLE, numbers?).map(Command::Table),
+        Name::Log => given_memory(MAX_LOG, numbers?).map(Command::Log),
         Name::Choose => alone(Command::Choose, numbers?),
         Name::Check => given_choice(numbers?).map(Command::Check),
         Name::Run => given_choice(numbers?).map(Command::Run),
-        Name::Show => show_command(line, at),
+        Name::Show => show_command(rest),
         Name::List => alone(Command::List, numbers?),
         Name::Sheet => alone(Command::Sheet, numbers?),
         Name::Open => {
@@ -64,10 +57,11 @@ fn command_named(name: Name, line: &[u8], at: usize) -> Option<Command>
 }
 
 // Whether a line begins with `#`.
+#[tactic(auto, unfolding(crate::specs::Command::is_comment))]
 fn is_comment(line: &[u8]) -> bool
     ensures { result ≡ is_comment line.now }
 {
-    matches!(line, [COMMENT, ..])
+    line.first() == Some(&b'#')
 }
 
 // The command that the bytes of a line are.
@@ -81,10 +75,11 @@ fn command_in(line: &[u8]) -> Option<Command>
     if MAX_LINE < line.len() {
         return None;
     }
-    let Some(word) = next_word(line, 0) else {
+    let mut words = Words::of(line);
+    let Some(word) = words.next() else {
         return Some(Command::Nothing);
     };
-    command_named(name_of(word.bytes)?, line, word.end)
+    command_named(name_of(word)?, words.rest)
 }
 
 // The command that a line is, or none. The answer on every line.

@@ -4,7 +4,7 @@ ghost use Rattle.std.specs.Option.{option_map};
 ghost use Rattle.words.specs.Numbers.{max_kept};
 ghost use Rattle.command.specs.Numbered.{exactly, given_batch, given_memory, given_choice};
 
-use crate::command::{Choice, Command};
+use crate::command::{Choice, Command, Lent};
 use arrayvec::ArrayVec;
 use week::record::{Batch, Recipe};
 use words::numbers::Numbers;
@@ -38,27 +38,23 @@ pub(crate) fn given_batch(numbers: Numbers) -> Option<Batch>
     }
     let values = numbers.values;
     let count = (numbers.count - 3) / 2;
-    let mut recipes = Batch::empty().recipes;
-    let stored = count.min(Batch::MAX_RECIPES);
-    for (k, recipe) in recipes[..stored].iter_mut().enumerate() {
-        *recipe = Recipe {
-            cost: values[3 + 2 * k],
-            worth: values[4 + 2 * k],
-        };
-    }
+    let recipe = |k: usize| Recipe {
+        cost: values[3 + 2 * k],
+        worth: values[4 + 2 * k],
+    };
     Some(Batch {
         number: values[0],
         arrival: values[1],
         due: values[2],
         count,
-        recipes,
+        recipes: Batch::stored(count, recipe),
     })
 }
 
 // `table SIZE V`, `log SIZE V`: the size, up to a greatest one, and the value. A value that is left out is 0, as is a number that is not
 // there.
 #[tactic(auto, unfolding(crate::specs::Numbered::given_memory, crate::specs::Numbered::lends_up_to))]
-pub(crate) fn given_memory(most: usize, numbers: Numbers) -> Option<(usize, u8)>
+pub(crate) fn given_memory(most: usize, numbers: Numbers) -> Option<Lent>
     ensures { result ≡ given_memory most numbers }
 {
     if numbers.count < 1 || 2 < numbers.count {
@@ -69,7 +65,7 @@ pub(crate) fn given_memory(most: usize, numbers: Numbers) -> Option<(usize, u8)>
         return None;
     }
     let value = u8::try_from(numbers.values[1]).ok()?;
-    Some((size, value))
+    Some(Lent { size, value })
 }
 
 // `check K K ..`, `run K K ..`: at most 255 numbers, each of them a byte.

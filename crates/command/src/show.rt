@@ -1,10 +1,10 @@
 // `show table`, `show log`
-ghost use Rattle.std.specs.Prelude.{◌≡◌, drop};
+ghost use Rattle.std.specs.Prelude.{◌≡◌};
 ghost use Rattle.words.specs.Word.{words_of};
 ghost use Rattle.command.specs.Show.{shown, show_command};
 
 use crate::command::Command;
-use words::word::next_word;
+use words::word::Words;
 
 // Which of the two a word is.
 #[tactic(auto, unfolding(crate::specs::Show::shown))]
@@ -18,14 +18,14 @@ fn shown(word: &[u8]) -> Option<Command>
     }
 }
 
-// What is shown, if one word stands from `at` on and nothing after it.
+// What is shown, if one word stands on the rest of the line.
 #[tactic(auto, unfolding(crate::specs::Show::show_command))]
-pub(crate) fn show_command(line: &[u8], at: usize) -> Option<Command>
-    ensures { result ≡ show_command (words_of (drop at line.now)) }
+pub(crate) fn show_command(rest: &[u8]) -> Option<Command>
+    ensures { result ≡ show_command (words_of rest.now) }
 {
-    let word = next_word(line, at)?;
-    if next_word(line, word.end).is_some() {
-        return None;
+    let mut words = Words::of(rest);
+    match (words.next(), words.next()) {
+        (Some(word), None) => shown(word),
+        _ => None,
     }
-    shown(word.bytes)
 }

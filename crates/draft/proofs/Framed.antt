@@ -1,26 +1,24 @@
--- What a list is written as on a sheet, part after part: one recipe more of a batch, one frame more; and which lists can be written.
-use Prim.Native.Nat.{ℕ, suc, ◌+◌}
+-- Which lists can be written as a sheet, and what is printed of them and of the others.
+use Prim.Native.Nat.{suc, ◌<◌}
 use mathlib.Core.Path.{◌≡◌, refl, ap, ◌∙◌}
-use mathlib.Core.List.{◌++◌, flatten}
-use Rattle.arrays.proofs.Flattened.{flatten_more, flatten_one}
+use mathlib.Core.List.{flatten}
+use borrow.Author.Tests.{lt-ltb}
+use Rattle.arrays.proofs.Flattened.{flatten_one}
 use Rattle.arrays.proofs.Tests.{lt_fails}
-use Rattle.week.specs.declared.record.Batch.{Batch}
 use Rattle.week.specs.Record.{max_batches, max_recipes}
+use Rattle.week.specs.Refusal.{refused, refused_if, or_else, first_of}
 use Rattle.week.proofs.Answering.{answers}
+use Rattle.week.proofs.Faults.{fault_refuses}
 use Rattle.week.proofs.Passes.{if_passes, first_of_passes, first_passes}
 use Rattle.text.specs.Line.{refusal_line}
-use Rattle.draft.specs.declared.record.Draft.{Draft}
-use Rattle.draft.specs.Sheet.{recipe_part, recipes_part, batch_frame, batch_in, unkept, sheet_fault, Writable}
-use Rattle.draft.specs.Sheet.{batch_frames, sheet_frames, sheet_lines}
-
-pub recipes_on : (b : Batch) (k : ℕ) → recipes_part b (k + 1) ≡ recipes_part b k ++ recipe_part b k
-unfolding recipes_part
-recipes_on b k = flatten_more (recipe_part b) k
+use Rattle.draft.specs.Record.{Draft}
+use Rattle.draft.specs.Sheet.{batch_in, unkept, sheet_fault, Writable, sheet_frames, sheet_lines}
 
 module _ (d : Draft) where
-  pub frames_on : (i : ℕ) → flatten (batch_frames d (i + 1)) ≡ flatten (batch_frames d i) ++ batch_frame (batch_in d i)
-  unfolding batch_frames
-  frames_on i = flatten_more (λ k. batch_frame (batch_in d k)) i
+  -- 3 comes first
+  pub too_many : max_batches < d.count → sheet_fault d ≡ refused 3 0 0
+  unfolding sheet_fault first_of or_else refused_if
+  too_many more = rw (lt-ltb max_batches d.count more)
 
   -- where 3 and 4 pass
   pub writable : (sheet_fault d).number ≡ 0 → Writable d
@@ -42,3 +40,6 @@ module _ (d : Draft) where
   pub lines_written : (sheet_fault d).number ≡ 0 → sheet_lines d ≡ sheet_frames d
   unfolding sheet_lines
   lines_written z = (answers _ _ _).passed z
+
+-- what the text of a sheet is found by
+pub ruleset written = (writable, lines_refused, lines_written, fault_refuses)

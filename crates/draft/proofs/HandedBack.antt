@@ -3,8 +3,7 @@ use native.Mathlib.Omega.{arith}
 use mathlib.Core.Path.{◌≡◌}
 use lib.ListN.{length}
 use lib.Seq.{take_all, take-append-le}
-use Rattle.week.specs.declared.record.Week.{Week}
-use Rattle.week.specs.Record.{max_batches}
+use Rattle.week.specs.Record.{Week, max_batches}
 use Rattle.draft.specs.Record.{week_of, of_week}
 
 pub handed_back : (w : Week) → length w.batches ≡ max_batches → week_of (of_week w) ≡ w

@@ -14,8 +14,7 @@ use Rattle.arrays.specs.Made.{padded}
 use Rattle.arrays.proofs.Places.{padded_set, take_padded}
 use Rattle.week.specs.declared.record.Batch.{Batch}
 use Rattle.week.specs.Record.{max_batches, empty_batch}
-use Rattle.draft.specs.declared.record.Draft.{Draft}
-use Rattle.draft.specs.Record.{max_kept, empty_draft, with_batch, with_batches, draft_of, week_of, week_handed}
+use Rattle.draft.specs.Record.{Draft, max_kept, empty_draft, with_batch, with_batches, draft_of, week_of, week_handed}
 
 abbrev counted : ℕ → ℕ
 counted n = min n (suc max_kept)

@@ -4,4 +4,5 @@ pub mod Kept
 pub mod HandedBack
 pub mod Owned
 pub mod Printed
+pub mod Parts
 pub mod Framed

@@ -1,17 +1,16 @@
 -- What a list is printed as, part after part: one recipe more of a batch, the parts of its line, and one line more.
 use Prim.Native.Nat.{ℕ, zero, suc, ◌+◌, ◌<◌}
 use mathlib.Core.Path.{◌≡◌, refl, ap, ◌∙◌}
-use mathlib.Core.List.{List, [], ◌∷◌, ◌++◌, flatten, append_assoc}
+use mathlib.Core.List.{List, [], ◌∷◌, ◌++◌, append_assoc}
 use lib.ListN.{get_or, take}
 use lib.Seq.{get_or-take}
 use Rattle.arrays.specs.Text.{bytes, line_feed}
 use Rattle.arrays.proofs.Flattened.{flatten_more}
 use Rattle.week.specs.declared.record.Batch.{Batch}
 use Rattle.week.specs.declared.record.Recipe.{Recipe}
-use Rattle.week.specs.Record.{no_recipe, no_batch, recipe_at}
+use Rattle.week.specs.Record.{no_recipe, recipe_at}
 use Rattle.text.proofs.Spacing.{numbers, numbers-append}
-use Rattle.draft.specs.declared.record.Draft.{Draft}
-use Rattle.draft.specs.List.{printed, recipe_numbers, recipes_numbers, recipes_text, batch_line, batch_lines}
+use Rattle.draft.specs.List.{printed, recipe_numbers, recipes_numbers, recipes_text, batch_line}
 
 -- of the recipes that are printed, the one that is not kept is nothing but 0
 one_past : (recipes : List Recipe) (k : ℕ) → get_or (recipes ++ (no_recipe ∷ [])) k no_recipe ≡ get_or recipes k no_recipe
@@ -38,8 +37,3 @@ batch_parts b =
       numbers-append (b.number ∷ b.arrival ∷ b.due ∷ []) (recipes_numbers b (printed b)),
       append_assoc,
     )
-
-pub lines_more : (d : Draft) (i : ℕ) →
-    flatten (batch_lines d (i + 1)) ≡ flatten (batch_lines d i) ++ batch_line (get_or d.batches i no_batch)
-unfolding batch_lines
-lines_more d i = flatten_more (λ k. batch_line (get_or d.batches k no_batch)) i

@@ -8,13 +8,11 @@ use Rattle.arrays.specs.Made.{tabulate, padded}
 use Rattle.arrays.specs.Text.{bytes}
 use Rattle.week.specs.declared.record.Recipe.{Recipe}
 use Rattle.week.specs.declared.record.Batch.{Batch}
-use Rattle.week.specs.declared.record.Week.{Week}
-use Rattle.week.specs.Record.{max_recipes, no_recipe, no_batch, batch_at}
+use Rattle.week.specs.Record.{Week, max_recipes, no_recipe, no_batch, batch_at}
 use Rattle.week.specs.Refusal.{refused_if, or_else, first_of, first, unless_refused, answer_by}
 use Rattle.text.specs.Decimal.{spelt, decimal}
 use Rattle.text.specs.Line.{spaced, week_line, refusal_line}
-use Rattle.draft.specs.declared.record.Draft.{Draft}
-use Rattle.draft.specs.Record.{empty_draft, with_batch, with_batches, week_of, of_week}
+use Rattle.draft.specs.Record.{Draft, empty_draft, with_batch, with_batches, week_of, of_week}
 use Rattle.draft.specs.List.{batch_line, batch_lines, list_lines}
 use Rattle.draft.specs.Sheet.{hex_digit, hex_byte, hex_value, week_frame, recipes_part, batch_frame, unkept, sheet_fault}
 use Rattle.draft.specs.Sheet.{batch_frames, sheet_frames, sheet_lines}

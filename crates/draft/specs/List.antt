@@ -7,8 +7,7 @@ use Rattle.week.specs.declared.record.Batch.{Batch}
 use Rattle.week.specs.Record.{max_recipes, no_batch, recipe_at}
 use Rattle.text.specs.Decimal.{decimal}
 use Rattle.text.specs.Line.{spaced, line_of, week_line, week_width}
-use Rattle.draft.specs.declared.record.Draft.{Draft}
-use Rattle.draft.specs.Record.{max_kept}
+use Rattle.draft.specs.Record.{Draft, max_kept}
 
 -- one recipe more than are kept is printed, so that a count above the limit stays above it when the line is read again
 abbrev pub max_printed : ℕ

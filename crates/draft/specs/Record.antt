@@ -1,18 +1,21 @@
 -- A list as it is written down: docs/WEEKDESK.md, ‘What is written down’.
-use Rattle.std.specs.Prelude.{ℕ, suc, min, cond, List, [], ◌∷◌, length, take, set, replicate, ltb, leb}
+use Rattle.std.specs.Prelude.{ℕ, suc, min, cond, List, [], ◌∷◌, length, take, set, ltb, leb}
 use Rattle.arrays.specs.Made.{padded}
 use Rattle.week.specs.declared.record.Batch.{Batch}
-use Rattle.week.specs.declared.record.Week.{Week}
-use Rattle.week.specs.Record.{max_batches, empty_batch}
-use Rattle.draft.specs.declared.record.Draft.{Draft}
+use Rattle.week.specs.declared.record.Listing.{Listing}
+use Rattle.week.specs.Record.{Week, max_batches, empty_batch, empty_listing}
 
 -- ‘the first 64 kept’
 abbrev pub max_kept : ℕ
 max_kept = 64
 
+-- a list that is written down
+abbrev pub Draft : Type 0
+Draft = Listing max_kept
+
 -- ‘week T C’: ‘a new list, of no batches’
 abbrev pub empty_draft : ℕ → ℕ → Draft
-empty_draft t c = record { opening = t; closing = c; count = 0; batches = replicate max_kept empty_batch }
+empty_draft = empty_listing max_kept
 
 -- ‘batch ..’: ‘one batch more’; the count goes up to one more than are kept
 unfoldable pub with_batch : Draft → Batch → Draft

@@ -3,12 +3,15 @@ use Rattle.std.specs.Prelude.{ℕ, suc, ◌+◌, ◌-◌, ◌*◌, ◌/◌, ◌%
 use mathlib.Core.List.{List, [], ◌∷◌, ◌++◌, flatten}
 use Rattle.arrays.specs.Text.{line_feed}
 use Rattle.arrays.specs.Made.{tabulate}
+use Rattle.week.specs.declared.record.Recipe.{Recipe}
 use Rattle.week.specs.declared.record.Batch.{Batch}
 use Rattle.week.specs.declared.refusal.Refusal.{Refusal}
 use Rattle.week.specs.Record.{max_batches, max_recipes, no_batch, recipe_at}
 use Rattle.week.specs.Refusal.{refused_if, first_of, first, answer_by}
+use Rattle.sheet.specs.declared.frame.Frame.TheVariants as frame
+use Rattle.sheet.specs.Frame.{byte_of, week_length, batch_length, recipe_length}
 use Rattle.text.specs.Line.{refusal_line}
-use Rattle.draft.specs.declared.record.Draft.{Draft}
+use Rattle.draft.specs.Record.{Draft}
 
 -- "upper-case hexadecimal, two digits a byte": the digit of a number below 16, a byte, and "Values of two bytes stand high byte first."
 unfoldable pub hex_digit : ℕ → ℕ
@@ -22,30 +25,20 @@ hex_value v = hex_byte (v / 256) ++ hex_byte (v % 256)
 
 -- "Week: 01, t, c."
 unfoldable pub week_frame : (opening closing : ℕ) → List ℕ
-week_frame t c = hex_byte 1 ++ (hex_value t ++ (hex_value c ++ (line_feed ∷ [])))
+week_frame t c = hex_byte (byte_of frame.Week) ++ (hex_value t ++ (hex_value c ++ (line_feed ∷ [])))
 
 -- "Batch: 02, number, r, d, one byte with the count of recipes, then cost and worth for each.": the recipes, the first n of them, and
 -- the whole
-abbrev pub recipe_part : Batch → ℕ → List ℕ
-recipe_part b k = hex_value (recipe_at b k).cost ++ hex_value (recipe_at b k).worth
+abbrev pub recipe_part : Recipe → List ℕ
+recipe_part r = hex_value r.cost ++ hex_value r.worth
 
 unfoldable pub recipes_part : Batch → ℕ → List ℕ
-recipes_part b n = flatten (tabulate (recipe_part b) 0 n)
+recipes_part b n = flatten (tabulate (λ k. recipe_part (recipe_at b k)) 0 n)
 
 unfoldable pub batch_frame : Batch → List ℕ
 batch_frame b =
-    hex_byte 2 ++ (hex_value b.number ++ (hex_value b.arrival ++ (hex_value b.due
+    hex_byte (byte_of frame.Batch) ++ (hex_value b.number ++ (hex_value b.arrival ++ (hex_value b.due
     ++ (hex_byte b.count ++ (recipes_part b b.count ++ (line_feed ∷ []))))))
-
--- the bytes of a week's line, of a batch's line without recipes, and of each recipe on it, line feeds counted
-abbrev pub week_length : ℕ
-week_length = 11
-
-abbrev pub batch_length : ℕ
-batch_length = 17
-
-abbrev pub recipe_length : ℕ
-recipe_length = 8
 
 abbrev pub batch_in : Draft → ℕ → Batch
 batch_in d i = get_or d.batches i no_batch

@@ -1,4 +1,5 @@
-// Upper-case hexadecimal, two digits a byte.
+// Upper-case hexadecimal, two digits a byte. Not the kit's crate `hex`: its `encode_upper` allocates, and its `encode_to_slice` writes
+// lower case.
 ghost use Rattle.std.specs.Prelude.{◌≡◌, ◌+◌, ◌≤◌, ◌<◌, ◌++◌, length};
 ghost use Rattle.draft.specs.Sheet.{hex_digit, hex_byte, hex_value};
 

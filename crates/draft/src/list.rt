@@ -4,7 +4,7 @@ ghost use Rattle.text.specs.Decimal.{decimal};
 ghost use Rattle.text.specs.Line.{spaced};
 ghost use Rattle.draft.specs.List.{max_printed, recipes_text, batch_line, list_answer, recipe_width, batch_width, max_list};
 
-use crate::record::Draft;
+use crate::record::{Draft, MAX_KEPT};
 use text::Text;
 use text::line::WEEK_WIDTH;
 use week::record::{Batch, Recipe};
@@ -18,7 +18,7 @@ const RECIPE_WIDTH: usize = 12;
 const BATCH_WIDTH: usize = 5 + 3 * 6 + MAX_PRINTED * RECIPE_WIDTH + 1;
 
 // The longest text.
-pub const MAX_LIST: usize = WEEK_WIDTH + Draft::MAX_BATCHES * BATCH_WIDTH;
+pub const MAX_LIST: usize = WEEK_WIDTH + MAX_KEPT * BATCH_WIDTH;
 
 // A recipe's cost and its worth, each after a space.
 fn put_recipe(text: &mut Text<MAX_LIST>, recipe: Recipe)
@@ -35,8 +35,9 @@ fn put_recipes(text: &mut Text<MAX_LIST>, batch: Batch)
     ensures part { text.new ≡ text.old ++ recipes_text batch }
     ensures width { length text.new ≤ length text.old + max_printed * recipe_width }
 {
-    let mut recipes = [Recipe { cost: 0, worth: 0 }; MAX_PRINTED];
+    let mut recipes = [Recipe::NONE; MAX_PRINTED];
     recipes[..Batch::MAX_RECIPES].copy_from_slice(&batch.recipes);
+    // A loop here and below, and no function over a closure that puts the parts: its bound `Fn` can name no const parameter.
     for recipe in &recipes[..batch.count.min(MAX_PRINTED)] {
         put_recipe(text, *recipe);
     }
@@ -61,7 +62,7 @@ pub fn list_text(draft: Draft) -> Text<MAX_LIST>
 {
     let mut text = Text::new();
     text.week_line(draft.opening, draft.closing);
-    for batch in &draft.batches[..draft.count.min(Draft::MAX_BATCHES)] {
+    for batch in draft.listed() {
         batch_line(&mut text, *batch);
     }
     text

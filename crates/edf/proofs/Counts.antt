@@ -51,6 +51,8 @@ unfolding up_to_last
 up_to_last_short j [] = omega arith
 up_to_last_short j (x ∷ xs) = up_to_last_next j x xs (length xs) (up_to_last_short j xs)
 
+pub ruleset short = (entries_short, changes_short, up_to_last_short)
+
 -- one entry more before a log: the last stands at least one place further on, and not before that entry if it is one
 last_further : (j x : ℕ) (log : List ℕ) →
     (up_to_last j log ≤ up_to_last j (x ∷ log) - 1) × (cond (eqb x j) 1 0 ≤ up_to_last j (x ∷ log))

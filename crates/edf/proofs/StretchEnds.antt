@@ -3,11 +3,12 @@ use Prim.Native.Nat.{ℕ, zero, suc, ◌+◌, ◌-◌, ◌≤◌}
 use native.Mathlib.Decide.{ℕ_discrete, dec_le}
 use native.Mathlib.Omega.{arith}
 use mathlib.Core.Path.{◌≡◌, refl}
-use mathlib.Core.Bool.{Bool, true, false, cond, and-eq-true_iff}
+use mathlib.Core.Bool.{true, cond, and-eq-true_iff}
 use mathlib.Core.List.{List}
 use lib.ListN.{get_or}
 use lib.Dec.{leb}
 use borrow.Author.Tests.{le-leb, lt-leb}
+use Rattle.std.specs.Prelude.{Option, Some, None}
 use Rattle.arrays.specs.Position.{at_position, backward}
 use Rattle.arrays.specs.Sum.{sum_to}
 use Rattle.jobs.specs.declared.model.Version.{Version}
@@ -27,13 +28,13 @@ module _ (j : Job) (v : Version) (x : ℕ) where
       next_bound j v x - m + cond (leb m j.ready) l 0 ≤ (stretch_of j v x).end - m
   end_room fit m l few =
       elim (dec_le m j.ready) [
-        | yes later ↦ rw (le-leb m j.ready later) (by_read later v.read refl)
+        | yes later ↦ rw (le-leb m j.ready later) (by_minutes later v.minutes refl)
         | no earlier ↦ rw (lt-leb m j.ready (omega arith)) (omega (arith, end_in j v x))
       ]
     where
-      by_read : m ≤ j.ready → (q : Bool) → v.read ≡ q → next_bound j v x - m + l ≤ (stretch_of j v x).end - m
-      by_read later true r = omega (arith, end_read j v x r, bound_read j v x r, fits_read j v x fit r, rw r at few)
-      by_read later false r = omega (arith, end_in j v x, rw r at few)
+      by_minutes : m ≤ j.ready → (o : Option ℕ) → v.minutes ≡ o → next_bound j v x - m + l ≤ (stretch_of j v x).end - m
+      by_minutes later (Some n) r = omega (arith, end_read j v x r, bound_read j v x r, fits_read j v x fit r, rw r at few)
+      by_minutes later None r = omega (arith, end_in j v x, rw r at few)
 
 -- jobs 1 to n of a list under the bound x: they are ready at t or later, their choice meets the rule, and none needs more minutes
 -- than the choice gives it

@@ -1,5 +1,5 @@
 -- What a choice gives the station to read, and its run. The choice is an array in list order; positions count from 1.
-use Rattle.std.specs.Prelude.{ℕ, suc, Bool, not, cond, ◌&&◌, leb, ltb, List, Option, Some, None, unwrap_or}
+use Rattle.std.specs.Prelude.{ℕ, suc, Bool, ◌&&◌, leb, ltb, List, Option, None, unwrap_or}
 use Rattle.arrays.specs.Position.{at_position}
 use Rattle.arrays.specs.Made.{tabulate, padded}
 use Rattle.jobs.specs.declared.model.JobList.{JobList}
@@ -17,17 +17,13 @@ ready_at list i = (at_position no_job list.jobs i).ready
 abbrev pub minutes_at : JobList → List ℕ → ℕ → ℕ
 minutes_at list choice i = minutes_of (version_at list choice i)
 
--- and whether it sets it aside
-abbrev pub aside_at : JobList → List ℕ → ℕ → Bool
-aside_at list choice i = not (version_at list choice i).read
-
 -- the run of a choice: w minutes from minute t
 unfoldable pub choice_log : JobList → List ℕ → (t w : ℕ) → List ℕ
 choice_log list choice t w = log_of list.count (ready_at list) (minutes_at list choice) t w
 
 -- the same as one task for each position: the minutes to read, unless it is set aside
 abbrev pub given_at : JobList → List ℕ → ℕ → Option ℕ
-given_at list choice i = cond (aside_at list choice i) None (Some (minutes_at list choice i))
+given_at list choice i = (version_at list choice i).minutes
 
 abbrev pub task_at : JobList → List ℕ → ℕ → Task
 task_at list choice i = record { ready = ready_at list i; minutes = given_at list choice i }

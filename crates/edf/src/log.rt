@@ -10,17 +10,18 @@ pub fn entries(log: &[u8], position: u8) -> usize
     log.iter().filter(|&&entry| entry == position).count()
 }
 
-// How many entries there are up to the last that is this position; 0 if none is.
+// How many entries there are up to the last that is this position; none, and so 0, if no entry is.
+#[tactic(auto, using(crate::proofs::Scans::never_last, crate::proofs::Scans::last_at))]
 pub(crate) fn up_to_last(log: &[u8], position: u8) -> usize
     ensures { result ≡ up_to_last position log.now }
 {
-    match log.iter().rposition(|&entry| entry == position) {
-        Some(last) => last + 1,
-        None => 0,
-    }
+    log.iter()
+        .rposition(|&entry| entry == position)
+        .map_or(0, |last| last + 1)
 }
 
-// The first minute counts as after an idle one.
+// The first minute counts as after an idle one. A loop: `windows(2)` has no window that ends at the first minute, which would be
+// counted apart, and a `zip` would go over `once(&0).chain(log)`, the log with an idle minute in front.
 pub fn changes(log: &[u8]) -> usize
     ensures { result ≡ changes_of log.now }
 {

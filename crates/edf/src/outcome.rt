@@ -15,7 +15,7 @@ pub enum Outcome {
 }
 
 // Of the job at a position, whose minutes to read are given (None: it is set aside), after a log that starts at the opening.
-#[tactic(auto, using(crate::proofs::Counts::entries_short, crate::proofs::Counts::up_to_last_short), unfolding(crate::specs::Run::outcome_of))]
+#[tactic(auto, using(crate::proofs::Counts::short), unfolding(crate::specs::Run::outcome_of))]
 pub fn outcome_of(minutes: Option<u16>, opening: u16, log: &[u8], position: u8) -> Outcome
     requires { opening + length log.now ≤ max16 }
     ensures { result ≡ outcome_of minutes opening log.now position }
@@ -23,6 +23,7 @@ pub fn outcome_of(minutes: Option<u16>, opening: u16, log: &[u8], position: u8) 
     let Some(minutes) = minutes else {
         return Outcome::SetAside;
     };
+    // The log ends at a minute that 16 bits hold, and so they hold each count of its minutes: `try_from` would test what is proved.
     let got = entries(log, position) as u16;
     if minutes <= got {
         return Outcome::Finished(opening + (up_to_last(log, position) as u16));

@@ -20,6 +20,7 @@ pub fn run(work: Workload, opening: u16, log: &mut [u8])
     // Each with the minutes that it has left.
     let mut tasks = work.tasks;
     for (m, entry) in log.iter_mut().enumerate() {
+        // The log ends at a minute that 16 bits hold, and a position is at most 16: `try_from` would test what is proved.
         let minute = opening + (m as u16);
         *entry = match first_pending(&tasks[..work.count], minute) {
             Some(i) => {

@@ -45,12 +45,13 @@ pub fn workload_of(list: JobList, choice: &[u8]) -> Workload
         ready: 0,
         minutes: None,
     }; JobList::MAX_JOBS];
-    // By number: after a `zip` with what is written a proof knows none of its entries.
+    // By number: after a `zip` with what is written a proof knows none of its entries. `from_fn` was tried: it asks its closure for the
+    // places beyond the count too, so that a test of the count and what stands there go into the closure, for one loop less.
     for (i, job) in list.jobs[..list.count].iter().enumerate() {
         let version = job.version(choice[i]);
         tasks[i] = Task {
             ready: job.ready,
-            minutes: version.read.then_some(version.cost),
+            minutes: version.minutes,
         };
     }
     Workload {

@@ -22,14 +22,15 @@ fn rubbish() -> Batch {
 }
 
 fn batch(number: u16, arrival: u16, due: u16, first: Recipe, second: Recipe) -> Batch {
-    let mut b = rubbish();
-    b.number = number;
-    b.arrival = arrival;
-    b.due = due;
-    b.count = 2;
-    b.recipes[0] = first;
-    b.recipes[1] = second;
-    b
+    let mut recipes = rubbish().recipes;
+    recipes[..2].copy_from_slice(&[first, second]);
+    Batch {
+        number,
+        arrival,
+        due,
+        count: 2,
+        recipes,
+    }
 }
 
 fn recipe(cost: u16, worth: u16) -> Recipe {
@@ -37,17 +38,18 @@ fn recipe(cost: u16, worth: u16) -> Recipe {
 }
 
 fn case_w() -> Week {
-    let nothing = rubbish();
-    let mut week = Week {
+    let mut batches = [rubbish(); Week::MAX_BATCHES];
+    batches[..3].copy_from_slice(&[
+        batch(7, 0, 40, recipe(30, 9), recipe(10, 4)),
+        batch(8, 20, 60, recipe(30, 8), recipe(0, 0)),
+        batch(9, 0, 100, recipe(50, 10), recipe(20, 5)),
+    ]);
+    Week {
         opening: 0,
         closing: 100,
         count: 3,
-        batches: [nothing; Week::MAX_BATCHES],
-    };
-    week.batches[0] = batch(7, 0, 40, recipe(30, 9), recipe(10, 4));
-    week.batches[1] = batch(8, 20, 60, recipe(30, 8), recipe(0, 0));
-    week.batches[2] = batch(9, 0, 100, recipe(50, 10), recipe(20, 5));
-    week
+        batches,
+    }
 }
 
 fn say(rt: &impl Print, text: AnswerText) {

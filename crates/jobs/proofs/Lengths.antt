@@ -3,9 +3,10 @@ use Prim.Native.Nat.{ℕ, zero, suc, ◌+◌, ◌≤◌}
 use native.Mathlib.Decide.{ℕ_discrete}
 use native.Mathlib.Omega.{arith}
 use mathlib.Core.Path.{◌≡◌, refl}
-use mathlib.Core.Bool.{Bool, true, false, cond, and-eq-true_iff}
+use mathlib.Core.Bool.{true, and-eq-true_iff}
 use mathlib.Core.List.{List}
 use lib.ListN.{get_or}
+use Rattle.std.specs.Prelude.{Option, Some, None, unwrap_or}
 use Rattle.arrays.specs.Position.{at_position, backward}
 use Rattle.jobs.specs.declared.model.Version.{Version}
 use Rattle.jobs.specs.declared.model.Job.{Job}
@@ -24,11 +25,11 @@ Long stretch minutes = stretch.start + minutes ≡ stretch.end
 -- of one job
 one_long : (j : Job) (v : Version) (x : ℕ) → fits j v x ≡ true → Long (stretch_of j v x) (minutes_of v)
 unfolding stretch_of
-one_long j v x fit = by_read v.read refl
+one_long j v x fit = by_minutes v.minutes refl
   where
-    by_read : (q : Bool) → v.read ≡ q → Long (stretch_of j v x) (cond q v.cost 0)
-    by_read true r = rw r (omega (arith, fits_read j v x fit r))
-    by_read false r = rw r (omega arith)
+    by_minutes : (o : Option ℕ) → v.minutes ≡ o → Long (stretch_of j v x) (unwrap_or o 0)
+    by_minutes (Some m) r = rw r (omega (arith, fits_read j v x fit r))
+    by_minutes None r = rw r (omega arith)
 
 module _ (list : JobList) (choice : List ℕ) where
   -- of an array that holds the stretches of jobs 1 to n under the bound x

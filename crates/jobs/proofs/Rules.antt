@@ -8,7 +8,7 @@ use mathlib.Core.List.{List, [], ◌∷◌}
 use lib.ListN.{length}
 use lib.Dec.{eqb-suc-zero}
 use borrow.Author.Tests.{leb-true}
-use Rattle.std.specs.Prelude.{Ok, Err}
+use Rattle.std.specs.Prelude.{Option, Some, None, Ok, Err}
 use Rattle.jobs.specs.declared.model.Version.{Version}
 use Rattle.jobs.specs.declared.model.Job.{Job}
 use Rattle.jobs.specs.Model.{version_of}
@@ -18,44 +18,44 @@ use Rattle.jobs.specs.Stretches.{stretches_of}
 use Rattle.jobs.specs.Contract.{stretched}
 
 -- a version that is read and fits: its minutes lie between the job's ready minute and the end of its stretch
-pub fits_read : (j : Job) (v : Version) (x : ℕ) → fits j v x ≡ true → v.read ≡ true → j.ready + v.cost ≤ end_of j x
+pub fits_read : (j : Job) (v : Version) (x : ℕ) → fits j v x ≡ true → {m : ℕ} → v.minutes ≡ Some m → j.ready + m ≤ end_of j x
 unfolding fits
 fits_read j v x h r = leb-true _ _ (rw (r, fits) at h)
 
 -- the bound that a version leaves, by whether it is read
-pub bound_read : (j : Job) (v : Version) (x : ℕ) → v.read ≡ true → next_bound j v x ≡ end_of j x - v.cost
+pub bound_read : (j : Job) (v : Version) (x : ℕ) {m : ℕ} → v.minutes ≡ Some m → next_bound j v x ≡ end_of j x - m
 unfolding next_bound stretch_of
 bound_read j v x r = rw r
 
-pub bound_aside : (j : Job) (v : Version) (x : ℕ) → v.read ≡ false → next_bound j v x ≡ x
+pub bound_aside : (j : Job) (v : Version) (x : ℕ) → v.minutes ≡ None → next_bound j v x ≡ x
 unfolding next_bound stretch_of
 bound_aside j v x r = rw r
 
 -- where its stretch ends, by whether it is read
-pub end_read : (j : Job) (v : Version) (x : ℕ) → v.read ≡ true → (stretch_of j v x).end ≡ end_of j x
+pub end_read : (j : Job) (v : Version) (x : ℕ) {m : ℕ} → v.minutes ≡ Some m → (stretch_of j v x).end ≡ end_of j x
 unfolding stretch_of
 end_read j v x r = rw r
 
-end_aside : (j : Job) (v : Version) (x : ℕ) → v.read ≡ false → (stretch_of j v x).end ≡ x
+end_aside : (j : Job) (v : Version) (x : ℕ) → v.minutes ≡ None → (stretch_of j v x).end ≡ x
 unfolding stretch_of
 end_aside j v x r = rw r
 
 -- it ends between the bound that it leaves and its own
 pub end_in : (j : Job) (v : Version) (x : ℕ) → (next_bound j v x ≤ (stretch_of j v x).end) × ((stretch_of j v x).end ≤ x)
-end_in j v x = by_read v.read refl
+end_in j v x = by_minutes v.minutes refl
   where
-    by_read : (q : Bool) → v.read ≡ q → (next_bound j v x ≤ (stretch_of j v x).end) × ((stretch_of j v x).end ≤ x)
-    by_read true r = omega (arith, end_read j v x r, bound_read j v x r)
-    by_read false r = omega (arith, end_aside j v x r, bound_aside j v x r)
+    by_minutes : (o : Option ℕ) → v.minutes ≡ o → (next_bound j v x ≤ (stretch_of j v x).end) × ((stretch_of j v x).end ≤ x)
+    by_minutes (Some m) r = omega (arith, end_read j v x r, bound_read j v x r)
+    by_minutes None r = omega (arith, end_aside j v x r, bound_aside j v x r)
 
 -- a job that is ready at t or later and fits under a bound of t or later leaves a bound from t to that one
 pub bound_in : (j : Job) (v : Version) (x t : ℕ) → t ≤ j.ready → t ≤ x → fits j v x ≡ true →
     (t ≤ next_bound j v x) × (next_bound j v x ≤ x)
-bound_in j v x t ready from fit = by_read v.read refl
+bound_in j v x t ready from fit = by_minutes v.minutes refl
   where
-    by_read : (q : Bool) → v.read ≡ q → (t ≤ next_bound j v x) × (next_bound j v x ≤ x)
-    by_read true r = omega (arith, bound_read j v x r, fits_read j v x fit r)
-    by_read false r = omega (arith, bound_aside j v x r)
+    by_minutes : (o : Option ℕ) → v.minutes ≡ o → (t ≤ next_bound j v x) × (next_bound j v x ≤ x)
+    by_minutes (Some m) r = omega (arith, bound_read j v x r, fits_read j v x fit r)
+    by_minutes None r = omega (arith, bound_aside j v x r)
 
 -- a choice meets the rule exactly where no position fails
 pub meets_failing : (js : List Job) (x : ℕ) (ks : List ℕ) → (meets js x ks ≡ true) ↔ (failing js x ks ≡ 0)

@@ -1,5 +1,5 @@
 -- The limits, and the jobs and versions that an array of jobs and a choice name.
-use Rattle.std.specs.Prelude.{ℕ, false, cond, List, []}
+use Rattle.std.specs.Prelude.{ℕ, List, [], None, unwrap_or}
 use Rattle.arrays.specs.Position.{at_position, backward}
 use Rattle.jobs.specs.declared.model.Version.{Version}
 use Rattle.jobs.specs.declared.model.Job.{Job}
@@ -17,7 +17,7 @@ max_versions = 10
 
 -- what stands past the end of an array
 abbrev pub no_version : Version
-no_version = record { read = false; cost = 0; worth = 0 }
+no_version = record { minutes = None; worth = 0 }
 
 abbrev pub no_job : Job
 no_job = record { ready = 0; due = 0; count = 0; versions = [] }
@@ -26,9 +26,9 @@ no_job = record { ready = 0; due = 0; count = 0; versions = [] }
 abbrev pub version_of : Job → ℕ → Version
 version_of j k = at_position no_version j.versions k
 
--- the minutes that the station has to read of a version: none if it is set aside
+-- the minutes that the station has to read of a version: 0 if it is set aside
 abbrev pub minutes_of : Version → ℕ
-minutes_of v = cond v.read v.cost 0
+minutes_of v = unwrap_or v.minutes 0
 
 -- the jobs of a list, the last first
 abbrev pub jobs_of : JobList → List Job

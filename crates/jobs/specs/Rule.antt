@@ -1,6 +1,6 @@
 -- The backward rule: document 01, "The backward rule"; source document 000, equations 3 and 4, with lines 20 to 22 of
 -- its algorithm for a cancelled job. Jobs and choices stand last first; x is the bound, which starts at the close.
-use Rattle.std.specs.Prelude.{ℕ, suc, ◌+◌, ◌-◌, min, Bool, true, false, cond, ◌&&◌, List, [], ◌∷◌, length, leb}
+use Rattle.std.specs.Prelude.{ℕ, suc, ◌+◌, ◌-◌, min, Bool, true, false, cond, ◌&&◌, List, [], ◌∷◌, length, leb, Some, None}
 use Rattle.jobs.specs.declared.model.Version.{Version}
 use Rattle.jobs.specs.declared.model.Job.{Job}
 use Rattle.jobs.specs.declared.rule.Stretch.{Stretch}
@@ -14,13 +14,14 @@ end_of j x = min j.due x
 -- bound."
 unfoldable pub stretch_of : Job → Version → ℕ → Stretch
 stretch_of j v x =
-    cond v.read
-    (record { start = end_of j x - v.cost; end = end_of j x })
-    (record { start = x; end = x })
+    elim v.minutes [
+      | Some minutes ↦ record { start = end_of j x - minutes; end = end_of j x }
+      | None ↦ record { start = x; end = x }
+    ]
 
 -- "The rule asks that s plus the cost is at most that end." "A batch that is set aside asks nothing".
 unfoldable pub fits : Job → Version → ℕ → Bool
-fits j v x = cond v.read (leb (j.ready + v.cost) (end_of j x)) true
+fits j v x = elim v.minutes [ Some minutes ↦ leb (j.ready + minutes) (end_of j x) | None ↦ true ]
 
 -- "The start becomes the next bound."
 unfoldable pub next_bound : Job → Version → ℕ → ℕ

@@ -5,10 +5,8 @@ ghost use Rattle.jobs.specs.Model.{max_versions, version_of};
 // One way to read a job. Document 01 calls it a recipe.
 #[derive(Clone, Copy, Debug, PartialEq, Eq)]
 pub struct Version {
-    // Whether the station reads the job; if not, it is set aside. A flag, and no `Option` of the cost: the record layer decides it on the
-    // cost as it is written, whatever minutes it plans with.
-    pub read: bool,
-    pub cost: u16,
+    // The minutes that the station reads the job for; None: it is set aside.
+    pub minutes: Option<u16>,
     // Wide enough for a written worth times a weight.
     pub worth: u32,
 }
@@ -34,7 +32,8 @@ impl Job {
     }
 }
 
-// The jobs of a week, in list order: the first `count` of the array.
+// The jobs of a week, in list order: the first `count` of the array. By value, as 01 holds a list. `jobs[..count]` are they, where a list
+// counts no more than it has places for, and a method's name would say no more.
 #[derive(Clone, Copy, Debug, PartialEq, Eq)]
 pub struct JobList {
     pub count: usize,

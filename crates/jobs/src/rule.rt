@@ -32,25 +32,26 @@ impl Job {
     fn fits(self, version: Version, bound: u16) -> bool
         ensures { result ≡ fits_of self version bound }
     {
-        !version.read
-            || u32::from(self.ready) + u32::from(version.cost) <= u32::from(self.stretch_end(bound))
+        version.minutes.is_none_or(|minutes| {
+            u32::from(self.ready) + u32::from(minutes) <= u32::from(self.stretch_end(bound))
+        })
     }
 
     // The stretch of a version of this job under a bound.
-    #[tactic(auto, using(crate::proofs::Rules::fits_read), unfolding(crate::specs::Rule::stretch_of))]
+    #[tactic(auto, unfolding(crate::specs::Rule::fits, crate::specs::Rule::stretch_of))]
     pub fn stretch(self, version: Version, bound: u16) -> Stretch
         requires { fits_of self version bound ≡ true }
         ensures { result ≡ stretch_of self version bound }
     {
-        if !version.read {
+        let Some(minutes) = version.minutes else {
             return Stretch {
                 start: bound,
                 end: bound,
             };
-        }
+        };
         let end = self.stretch_end(bound);
         Stretch {
-            start: end - version.cost,
+            start: end - minutes,
             end,
         }
     }
@@ -67,9 +68,8 @@ pub fn stretch_all(
 {
     let mut stretches = [Stretch { start: 0, end: 0 }; JobList::MAX_JOBS];
     let mut bound = close;
-    // By number: the job, its version and its stretch are told by one, and so is the position that fails.
-    for i in (0..list.count).rev() {
-        let job = list.jobs[i];
+    // Stored by number: after a `zip` with what is written a proof knows none of its entries.
+    for (i, job) in list.jobs[..list.count].iter().enumerate().rev() {
         let version = job.version(choice[i]);
         if !job.fits(version, bound) {
             return Err(Failing { position: i + 1 });

@@ -15,5 +15,6 @@ pub fn total(list: JobList, choice: &[u8]) -> u32
     for (job, &k) in list.jobs[..list.count].iter().zip(choice) {
         sum += u64::from(job.version(k).worth);
     }
+    // The worths are such that 32 bits hold their sum, `Answerable`: `try_from` would test what is proved.
     sum as u32
 }

@@ -15,8 +15,7 @@ use Rattle.arrays.specs.Rearranged.{Perm}
 use Rattle.arrays.proofs.Pairs.{all_index, pairs_index}
 use Rattle.arrays.proofs.Rearranges.{perm_all}
 use Rattle.week.specs.declared.record.Batch.{Batch}
-use Rattle.week.specs.declared.record.Week.{Week}
-use Rattle.week.specs.Record.{max_batches, no_batch, batch_at}
+use Rattle.week.specs.Record.{Week, max_batches, no_batch, batch_at}
 use Rattle.week.specs.Order.{before, InOrder}
 use Rattle.week.specs.Numbers.{Others, without}
 use Rattle.week.specs.Written.{batches_of}

@@ -11,9 +11,8 @@ use lib.Dec.{eqb}
 use Rattle.arrays.specs.Each.{some_below}
 use Rattle.arrays.proofs.Each.{below_some, some_below_lem}
 use Rattle.arrays.proofs.Tests.{lt_holds, le_holds, same_holds, same_fails, not_holds, either_holds, both_hold}
-use Rattle.week.specs.declared.record.Week.{Week}
 use Rattle.week.specs.declared.refusal.Refusal.{Refusal}
-use Rattle.week.specs.Record.{max_minutes, max_batches, max_recipes, batch_at, recipe_at, batch_of, number_at, span_of}
+use Rattle.week.specs.Record.{Week, max_minutes, max_batches, max_recipes, batch_at, recipe_at, batch_of, number_at, span_of}
 use Rattle.week.specs.Refusal.{refused, first_of, first, at_place}
 use Rattle.week.specs.RefusalOrder.{one_of, stage, rank, least_place, greatest_place, of_recipe, Naming, NoLater, FirstToHold, ◌when◌, ◌or◌, some_of}
 use Rattle.week.proofs.First.{place_each, place_first, first_up}

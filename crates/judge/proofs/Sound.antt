@@ -1,6 +1,6 @@
 -- What is known of a list, and of a choice, that is not refused.
 use Prim.Native.Nat.{ℕ, suc, ◌<◌, ◌≤◌}
-use mathlib.Core.Path.{◌≡◌, refl, ap}
+use mathlib.Core.Path.{◌≡◌, refl, sym, ap}
 use mathlib.Core.Logic.Iff
 use mathlib.Core.Logic.{◌↔◌}
 use mathlib.Core.Bool.{not}
@@ -9,13 +9,12 @@ use lib.ListN.{length, get_or}
 use borrow.Author.Tests.{eqb-true, eq-eqb, not-false}
 use Rattle.arrays.specs.Each.{OneOfEach}
 use Rattle.arrays.proofs.Tests.{lt_fails, zero_fails, or_fails}
-use Rattle.week.specs.declared.record.Week.{Week}
-use Rattle.week.specs.Record.{max_minutes, max_batches, max_recipes, batch_at, span_of}
-use Rattle.week.specs.Refusal.{first_of}
-use Rattle.judge.specs.Fault.{name_fault, choice_fault, handed_faults, WellFormed, WellChosen}
+use Rattle.week.specs.Record.{Week, max_minutes, max_batches, max_recipes, batch_at, span_of}
+use Rattle.week.specs.Refusal.{accepted, first_of}
+use Rattle.judge.specs.Fault.{week_fault, list_fault, name_fault, choice_fault, handed_faults, WellFormed, WellChosen}
 use Rattle.week.proofs.First.{Proper, number_of_lem, first_of_proper}
 use Rattle.week.proofs.Passes.{Passes, proper_passes, if_passes, first_of_passes, first_passes}
-use Rattle.judge.proofs.WellFormed.{list_proper, list_passes}
+use Rattle.judge.proofs.WellFormed.{week_passes, list_proper, list_passes}
 
 -- of a list, what the scheduling core asks
 pub record Sound (w : Week) : Type 0 where
@@ -35,6 +34,13 @@ sound w list =
       some = λ i l. (orderly.fair i l).some;
       few = λ i l. (orderly.fair i l).few;
     }
+
+-- and its count, from 1 to 3 alone, and from all that refuses it
+pub week_most : (w : Week) → accepted ≡ week_fault w → w.count ≤ max_batches
+week_most w passed = ((week_passes w).0 (number_of_lem (sym passed))).2
+
+pub list_most : (w : Week) → accepted ≡ list_fault w → w.count ≤ max_batches
+list_most w passed = (sound w (sym passed)).most
 
 -- of a choice: it names for each batch one of its recipes
 pub record Named (w : Week) (choice : List ℕ) : Type 0 where

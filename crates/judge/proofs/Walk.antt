@@ -11,9 +11,8 @@ use lib.Seq.{get_or-take}
 use lib.Dec.{eqb}
 use Rattle.arrays.proofs.Each.{below_same}
 use Rattle.week.specs.declared.record.Batch.{Batch}
-use Rattle.week.specs.declared.record.Week.{Week}
 use Rattle.week.specs.declared.refusal.Refusal.{Refusal}
-use Rattle.week.specs.Record.{no_batch, batch_at, number_at}
+use Rattle.week.specs.Record.{Week, no_batch, batch_at, number_at}
 use Rattle.week.specs.Numbers.{number_in}
 use Rattle.week.specs.Refusal.{accepted, refused, refused_if, first_of, first, at_place}
 use Rattle.judge.specs.BatchFault.{before_costs, costs_fault, worths_fault}

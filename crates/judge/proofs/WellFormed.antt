@@ -9,8 +9,7 @@ use borrow.Author.Tests.{ltb-true, lt-ltb, eqb-true, eq-eqb, not-false}
 use Rattle.arrays.proofs.Each.{none_below}
 use Rattle.arrays.proofs.Tests.{lt_fails, le_fails, none_fails, zero_fails, same_fails, or_fails, and_fails}
 use Rattle.week.specs.declared.record.Batch.{Batch}
-use Rattle.week.specs.declared.record.Week.{Week}
-use Rattle.week.specs.Record.{max_minutes, max_batches, max_recipes, batch_at, recipe_at, number_at, span_of}
+use Rattle.week.specs.Record.{Week, max_minutes, max_batches, max_recipes, batch_at, recipe_at, number_at, span_of}
 use Rattle.week.specs.Order.{before}
 use Rattle.week.specs.Refusal.{first_of}
 use Rattle.judge.specs.BatchFault.{count_fault, due_fault, arrival_fault, cost_fault, worth_fault, own_faults}

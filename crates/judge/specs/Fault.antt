@@ -3,9 +3,8 @@
 use Rattle.std.specs.Prelude.{ℕ, suc, ◌-◌, ◌≡◌, ◌||◌, ◌&&◌, not, List, [], ◌∷◌, ◌++◌, length, get_or, ltb, leb, eqb}
 use Rattle.arrays.specs.Each.{some_below}
 use Rattle.week.specs.declared.record.Batch.{Batch}
-use Rattle.week.specs.declared.record.Week.{Week}
 use Rattle.week.specs.declared.refusal.Refusal.{Refusal}
-use Rattle.week.specs.Record.{max_minutes, max_batches, no_batch, batch_at, number_at}
+use Rattle.week.specs.Record.{Week, max_minutes, max_batches, no_batch, batch_at, number_at}
 use Rattle.week.specs.Numbers.{number_in}
 use Rattle.week.specs.Order.{before}
 use Rattle.week.specs.Refusal.{accepted, refused_if, first_of, first, at_place}

@@ -2,9 +2,8 @@
 -- numbered from 1 here, as a refusal names them.
 use Rattle.std.specs.Prelude.{ℕ, suc, ◌-◌, ◌≤◌, ◌<◌, ◌≡◌, ◌⊎◌, false, List, [], ◌∷◌, length}
 use Rattle.arrays.specs.Position.{at_position}
-use Rattle.week.specs.declared.record.Week.{Week}
 use Rattle.week.specs.declared.refusal.Refusal.{Refusal}
-use Rattle.week.specs.Record.{max_minutes, max_batches, max_recipes, batch_of, recipe_of, span_of}
+use Rattle.week.specs.Record.{Week, max_minutes, max_batches, max_recipes, batch_of, recipe_of, span_of}
 use Rattle.week.specs.Order.{before}
 use Rattle.week.specs.Refusal.{refused}
 use Rattle.week.specs.RefusalOrder.{◌when◌, ◌or◌, some_of}

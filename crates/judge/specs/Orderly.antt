@@ -1,8 +1,7 @@
 -- What a list that passes is, whole: what 1 to 10 ask, each the right way round.
 use Rattle.std.specs.Prelude.{ℕ, suc, ◌-◌, ◌≤◌, ◌<◌, ◌≡◌, true}
 use Rattle.week.specs.declared.record.Batch.{Batch}
-use Rattle.week.specs.declared.record.Week.{Week}
-use Rattle.week.specs.Record.{max_minutes, max_batches, max_recipes, batch_at, recipe_at, number_at, span_of}
+use Rattle.week.specs.Record.{Week, max_minutes, max_batches, max_recipes, batch_at, recipe_at, number_at, span_of}
 use Rattle.week.specs.Order.{before}
 
 -- a batch without a fault of its own, in a week that closes at c: 4 to 8

@@ -9,7 +9,7 @@ use week::record::Batch;
 use week::refusal::{Fault, Reason};
 
 // 4 to 6, asked before the costs: how many recipes the batch has, its due minute and its arrival.
-#[tactic(auto, unfolding(week::specs::Refusal::first_of, week::specs::Refusal::or_else, week::specs::Refusal::refused_if))]
+#[tactic(auto, using(week::proofs::Faults::in_turn))]
 pub(crate) fn before_costs(closing: u16, b: Batch) -> Result<(), Fault>
     ensures { refusal_of result ≡ first_of (before_costs closing b) }
 {
@@ -25,19 +25,19 @@ pub(crate) fn before_costs(closing: u16, b: Batch) -> Result<(), Fault>
     Ok(())
 }
 
-// 8: a recipe of cost 0 with a worth.
-#[tactic(auto, unfolding(crate::specs::BatchFault::worth_fault, week::specs::Refusal::refused_if))]
+// 8: a recipe of cost 0 with a worth. Asked of a batch whose count is judged, as what follows here and what draft writes: a type of such
+// batches would be made from a batch for each call, and taken apart in it.
 pub(crate) fn worths_fault(b: Batch) -> Result<(), Fault>
     requires { b.count ≤ max_recipes }
     ensures { refusal_of result ≡ worths_fault b }
 {
-    for (k, r) in b.recipes[..b.count].iter().enumerate() {
-        if r.cost == 0 && 0 < r.worth {
-            return Err(Fault {
+    b.recipes[..b.count]
+        .iter()
+        .position(|r| r.cost == 0 && 0 < r.worth)
+        .map_or(Ok(()), |k| {
+            Err(Fault {
                 recipe: k + 1,
                 ..Fault::of(Reason::WorthWithoutCost)
-            });
-        }
-    }
-    Ok(())
+            })
+        })
 }

@@ -14,7 +14,7 @@ use week::record::{Batch, Week};
 use week::refusal::{Fault, Reason};
 
 // 1 to 3: the minutes of the week, and how many batches it has.
-#[tactic(auto, unfolding(crate::specs::Fault::week_fault, week::specs::Refusal::first_of, week::specs::Refusal::or_else, week::specs::Refusal::refused_if))]
+#[tactic(auto, using(week::proofs::Faults::in_turn), unfolding(crate::specs::Fault::week_fault))]
 fn week_fault(week: Week) -> Result<(), Fault>
     ensures { refusal_of result ≡ week_fault week }
 {
@@ -46,15 +46,16 @@ fn number_fault(earlier: &[Batch], b: Batch) -> Result<(), Fault>
 fn order_fault(opening: u16, earlier: &[Batch], b: Batch) -> Result<(), Fault>
     ensures { refusal_of result ≡ order_fault opening (length earlier.now) (last_among earlier.now) b }
 {
-    if let Some(a) = earlier.last() {
-        if !stands_before(opening, *a, b) {
-            return Err(Fault::of(Reason::OutOfOrder));
-        }
+    if let Some(a) = earlier.last()
+        && !stands_before(opening, *a, b)
+    {
+        return Err(Fault::of(Reason::OutOfOrder));
     }
     Ok(())
 }
 
 // 8 to 10, asked after the costs, of a batch after those that stand earlier.
+#[tactic(auto, using(week::proofs::Faults::in_turn))]
 fn after_costs(opening: u16, earlier: &[Batch], b: Batch) -> Result<(), Fault>
     requires { b.count ≤ max_recipes }
     ensures { refusal_of result ≡ first_of (later_faults opening earlier.now b) }
@@ -70,35 +71,34 @@ fn batches_fault(week: Week) -> Result<(), Fault>
     requires { week.count ≤ max_batches }
     ensures { refusal_of result ≡ first (batch_fault week) 0 week.count }
 {
-    let mut i = 0;
-    'batches: loop {
-        if week.count <= i {
-            break 'batches Ok(());
-        }
-        let b = week.batches[i];
-        if let Err(early) = before_costs(week.closing, b) {
-            break 'batches Err(early.in_place(i + 1));
-        }
-        // By number, which the refusal names; `windows(2)` would give the two as a part to be taken apart again.
-        for k in 1..b.count {
-            let r = b.recipes[k];
-            let q = b.recipes[k - 1];
-            if q.cost < r.cost || q.cost == 0 {
-                break 'batches Err(Fault {
-                    reason: Reason::CostRises,
-                    place: i + 1,
-                    recipe: k + 1,
-                });
+    'batches: {
+        for (i, b) in week.listed().iter().enumerate() {
+            if let Err(early) = before_costs(week.closing, *b) {
+                break 'batches Err(early.in_place(i + 1));
+            }
+            // By number, which the refusal names. In the pairs that `zip` gives of two parts it would be `k + 2`, and `windows(2)` would
+            // give the two as a part to be taken apart again.
+            for k in 1..b.count {
+                let r = b.recipes[k];
+                let q = b.recipes[k - 1];
+                if q.cost < r.cost || q.cost == 0 {
+                    break 'batches Err(Fault {
+                        reason: Reason::CostRises,
+                        place: i + 1,
+                        recipe: k + 1,
+                    });
+                }
+            }
+            if let Err(later) = after_costs(week.opening, &week.batches[..i], *b) {
+                break 'batches Err(later.in_place(i + 1));
             }
         }
-        if let Err(later) = after_costs(week.opening, &week.batches[..i], b) {
-            break 'batches Err(later.in_place(i + 1));
-        }
-        i += 1;
+        Ok(())
     }
 }
 
 // 1 to 10: the first that holds of a list.
+#[tactic(auto, using(week::proofs::Faults::in_turn, crate::proofs::Sound::week_most), unfolding(crate::specs::Fault::list_fault))]
 pub fn accept_list(week: Week) -> Result<(), Fault>
     ensures { refusal_of result ≡ list_fault week }
 {
@@ -107,24 +107,24 @@ pub fn accept_list(week: Week) -> Result<(), Fault>
 }
 
 // 13: a choice of another length than the list, or a recipe that its batch has not got.
-#[tactic(auto, unfolding(crate::specs::Fault::choice_fault, crate::specs::Fault::name_fault, week::specs::Refusal::first_of, week::specs::Refusal::or_else, week::specs::Refusal::refused_if))]
+#[tactic(auto, using(week::proofs::Faults::in_turn), unfolding(crate::specs::Fault::choice_fault))]
 fn choice_fault(week: Week, choice: &[u8]) -> Result<(), Fault>
     requires { week.count ≤ max_batches }
     ensures { refusal_of result ≡ choice_fault week choice.now }
 {
+    let fault = Fault::of(Reason::NoSuchChoice);
     if choice.len() != week.count {
-        return Err(Fault::of(Reason::NoSuchChoice));
+        return Err(fault);
     }
-    for (i, k) in choice.iter().enumerate() {
-        let b = week.batches[i];
-        if *k == 0 || b.count < usize::from(*k) {
-            return Err(Fault::of(Reason::NoSuchChoice).in_place(i + 1));
-        }
-    }
-    Ok(())
+    choice
+        .iter()
+        .zip(week.listed())
+        .position(|(k, batch)| *k == 0 || batch.count < usize::from(*k))
+        .map_or(Ok(()), |i| Err(fault.in_place(i + 1)))
 }
 
 // 1 to 10 of a list, then 13 of the choice that is handed in with it.
+#[tactic(auto, using(week::proofs::Faults::in_turn, crate::proofs::Sound::list_most))]
 pub fn accept_handed(week: Week, choice: &[u8]) -> Result<(), Fault>
     ensures { refusal_of result ≡ first_of (handed_faults week choice.now) }
 {

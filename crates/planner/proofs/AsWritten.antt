@@ -3,33 +3,32 @@
 use Prim.Native.Nat.{ℕ, zero, suc, ◌≤◌, ◌<◌}
 use native.Mathlib.Omega.{arith}
 use mathlib.Core.Path.{◌≡◌, refl, sym, ap, ◌∙◌}
-use mathlib.Core.Bool.{Bool, true, false, cond, not, not-not}
+use mathlib.Core.Bool.{cond}
 use mathlib.Core.List.{List}
 use lib.ListN.{get_or}
 use lib.Dec.{eqb}
 use borrow.Author.Tests.{eqb-true}
+use Rattle.std.specs.Prelude.{Option, Some, None, unwrap_or}
 use Rattle.arrays.specs.Position.{at_position, backward}
 use Rattle.arrays.specs.Sum.{sum_to}
+use Rattle.arrays.proofs.Cases.{cond_cases}
 use Rattle.arrays.proofs.Places.{position_index}
 use Rattle.jobs.specs.declared.model.Version.{Version}
 use Rattle.jobs.specs.declared.model.Job.{Job}
 use Rattle.jobs.specs.Model.{no_job, version_of, version_at, minutes_of}
 use Rattle.jobs.specs.Choice.{total}
-use Rattle.edf.specs.Workload.{ready_at, minutes_at, aside_at}
-use Rattle.week.specs.declared.record.Week.{Week}
-use Rattle.week.specs.Record.{max_recipes, no_recipe, batch_at, batch_of, ready_of}
+use Rattle.edf.specs.Workload.{ready_at, minutes_at, given_at}
+use Rattle.week.specs.declared.record.Recipe.{Recipe}
+use Rattle.week.specs.Record.{Week, max_recipes, no_recipe, batch_at, batch_of, ready_of}
 use Rattle.judge.proofs.Sound.{Sound, Named}
 use Rattle.planner.specs.Job.{recipe_version, job_from, job_list_of, week_jobs, week_choice}
 use Rattle.planner.specs.Written.{chosen_recipe, chosen_minutes, chosen_worth}
 use Rattle.planner.proofs.Jobs.{version_at_lem, job_at_lem}
 
 -- a recipe of cost 0 is set aside, and has nothing to read either way
-read_cost : (cost : ℕ) → cond (not (eqb cost 0)) cost 0 ≡ cost
-read_cost cost = by_zero (eqb cost 0) refl
-  where
-    by_zero : (q : Bool) → eqb cost 0 ≡ q → cond (not q) cost 0 ≡ cost
-    by_zero true e = sym (eqb-true cost 0 e)
-    by_zero false e = refl
+pub recipe_minutes : (r : Recipe) → minutes_of (recipe_version r) ≡ r.cost
+recipe_minutes r =
+    cond_cases (λ (minutes : Option ℕ). unwrap_or minutes 0 ≡ r.cost) (eqb r.cost 0) (λ e. sym (eqb-true r.cost 0 e)) (λ e. refl)
 
 module _ (w : Week) (sound : Sound w) where
   pub job_written : (i : ℕ) → 1 ≤ i → i ≤ w.count → at_position no_job (job_list_of w).jobs i ≡ job_from w.opening (batch_of w i)
@@ -53,11 +52,11 @@ module _ (w : Week) (sound : Sound w) where
         ∙ ap recipe_version (sym (position_index no_recipe (batch_at w i).recipes k (named.each i below).0))
 
     pub minutes_written : (i : ℕ) → 1 ≤ i → i ≤ w.count → minutes_at (job_list_of w) choice i ≡ chosen_minutes w choice i
-    minutes_written i low high = ap minutes_of (version_written i low high) ∙ read_cost (chosen_minutes w choice i)
+    minutes_written i low high = ap minutes_of (version_written i low high) ∙ recipe_minutes (chosen_recipe w choice i)
 
-    pub aside_written : (i : ℕ) → 1 ≤ i → i ≤ w.count →
-        aside_at (job_list_of w) choice i ≡ eqb (chosen_minutes w choice i) 0
-    aside_written i low high = ap (λ (v : Version). not v.read) (version_written i low high) ∙ not-not _
+    pub given_written : (i : ℕ) → 1 ≤ i → i ≤ w.count →
+        given_at (job_list_of w) choice i ≡ cond (eqb (chosen_minutes w choice i) 0) None (Some (chosen_minutes w choice i))
+    given_written i low high = ap (λ (v : Version). v.minutes) (version_written i low high)
 
     -- the total of a choice is the sum of the worths
     total_to : (n : ℕ) → n ≤ w.count →

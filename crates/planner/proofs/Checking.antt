@@ -5,7 +5,7 @@ use mathlib.Core.Path.{◌≡◌, refl, sym, ap, ◌∙◌}
 use mathlib.Core.Bool.{not}
 use mathlib.Core.List.{List, [], ◌∷◌}
 use borrow.Author.Tests.{eq-eqb, ne_eqb}
-use Rattle.std.specs.Prelude.{Result, Ok, Err}
+use Rattle.std.specs.Prelude.{Ok, Err}
 use Rattle.jobs.specs.declared.rule.Stretch.{Stretch}
 use Rattle.jobs.specs.declared.rule.Failing.{Failing}
 use Rattle.jobs.specs.Rule.{failing}
@@ -13,19 +13,17 @@ use Rattle.jobs.specs.Stretches.{stretches_of}
 use Rattle.jobs.specs.Choice.{total}
 use Rattle.jobs.specs.Contract.{stretched}
 use Rattle.jobs.proofs.Rules.{stretched_meets, stretched_fails}
-use Rattle.week.specs.declared.record.Week.{Week}
+use Rattle.week.specs.Record.{Week}
 use Rattle.week.specs.declared.refusal.Reason.TheVariants.{BreaksTheRule}
-use Rattle.week.specs.declared.refusal.Fault.{Fault}
 use Rattle.week.specs.Refusal.{accepted, refused, first_of}
-use Rattle.week.specs.Fault.{fault_at, numbers, refusal_of}
+use Rattle.week.specs.Fault.{fault_at, numbers}
 use Rattle.judge.specs.Fault.{handed_faults}
 use Rattle.week.proofs.Faults.{fault_refuses}
 use Rattle.week.proofs.First.{Proper, number_of_lem, refused_if_true, refused_if_false, refused_if_proper, first_of_proper, append_first}
 use Rattle.week.proofs.First.{append_last}
 use Rattle.week.proofs.Answering.{Answers, answers, answers_name}
-use Rattle.planner.specs.declared.check.Checked.{Checked}
 use Rattle.planner.specs.Job.{week_jobs, week_choice}
-use Rattle.planner.specs.Check.{CheckAnswer, rule_fault, check_fault, passed, refused_check, check_answer, checked_answer}
+use Rattle.planner.specs.Check.{CheckAnswer, rule_fault, check_fault, passed, refused_check, check_answer}
 
 module _ (w : Week) (choice : List ℕ) where
   abbrev failed : ℕ

@@ -9,29 +9,24 @@ use mathlib.Core.Logic.{◌↔◌, inl, inr, ⊎_elim}
 use mathlib.Core.List.{List, [], ◌∷◌}
 use mathlib.Core.Option.{Option, none, some}
 use lib.ListN.{length}
-use Rattle.std.specs.Prelude.{Result, Ok, Err}
 use Rattle.arrays.proofs.Cases.{option_cases}
 use Rattle.jobs.specs.Choice.{total}
 use Rattle.jobs.specs.Best.{Chosen}
 use Rattle.jobs.proofs.ChoiceArrays.{chosen_placed}
 use Rattle.jobs.proofs.BestOfAll.{best_some}
 use Rattle.select.specs.Table.{filled}
-use Rattle.week.specs.declared.record.Week.{Week}
-use Rattle.week.specs.declared.refusal.Fault.{Fault}
 use Rattle.week.specs.declared.refusal.Refusal.{Refusal}
-use Rattle.week.specs.Record.{max_minutes}
+use Rattle.week.specs.Record.{Week, max_minutes}
 use Rattle.week.specs.Refusal.{accepted, refused}
-use Rattle.week.specs.Fault.{refusal_of}
 use Rattle.judge.specs.Fault.{list_fault, WellFormed}
 use Rattle.week.proofs.First.{Proper, number_of_lem, refuses_too, first_of_here, first_of_last, first_of_proper, append_first, append_last}
 use Rattle.week.proofs.Passes.{first_of_passes, short_proper, short_passes, short_refuses}
 use Rattle.week.proofs.Answering.{Answers, answers, answers_name, unless_passed, unless_refused_lem}
 use Rattle.judge.proofs.WellFormed.{list_proper}
 use Rattle.judge.proofs.Sound.{sound}
-use Rattle.planner.specs.declared.choose.Plan.{Plan}
 use Rattle.planner.specs.Job.{job_list_of, week_jobs, week_choice}
 use Rattle.planner.specs.Choose.{width_of, max_picks, table_fault, plan_fault, week_best, fill_faults, fill_fault, choose_fault}
-use Rattle.planner.specs.Choose.{ChooseAnswer, refused_plan, plan_of, choose_answer, chosen_answer, table_after, FillsTable, LongTable}
+use Rattle.planner.specs.Choose.{ChooseAnswer, refused_plan, plan_of, choose_answer, table_after, FillsTable, LongTable}
 use Rattle.planner.proofs.Holding.{fill_other}
 
 -- 14, where there is no best choice

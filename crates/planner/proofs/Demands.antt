@@ -26,8 +26,7 @@ use Rattle.edf.specs.Run.{outcome_numbers}
 use Rattle.select.proofs.Picks.{filled_size}
 use Rattle.select.proofs.Entries.{filled_entry, filled_later}
 use Rattle.select.specs.Table.{entry_at}
-use Rattle.week.specs.declared.record.Week.{Week}
-use Rattle.week.specs.Record.{max_batches, batch_of, recipe_of, span_of, ready_of}
+use Rattle.week.specs.Record.{Week, max_batches, batch_of, recipe_of, span_of, ready_of}
 use Rattle.week.specs.Refusal.{refused}
 use Rattle.week.specs.RefusalOrder.{AtFault}
 use Rattle.judge.specs.Fault.{WellFormed, WellChosen}

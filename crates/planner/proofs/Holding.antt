@@ -10,9 +10,8 @@ use mathlib.Core.Option.{Option, none, some}
 use Rattle.arrays.proofs.Tests.{lt_holds}
 use Rattle.jobs.specs.Rule.{failing}
 use Rattle.jobs.proofs.BestOfAll.{best_some, best_none}
-use Rattle.week.specs.declared.record.Week.{Week}
 use Rattle.week.specs.declared.refusal.Refusal.{Refusal}
-use Rattle.week.specs.Record.{span_of}
+use Rattle.week.specs.Record.{Week, span_of}
 use Rattle.week.specs.Refusal.{refused, first_of, short_fault}
 use Rattle.week.specs.RefusalOrder.{stage, FirstToHold, ◌when◌, some_of, least_place, greatest_place, Naming}
 use Rattle.week.proofs.Holding.{no_later_self, nothing_holds, when_holds, if_holds, or_holds, one_holds, append_holds, when_place, stage_ahead}

@@ -19,8 +19,7 @@ use Rattle.jobs.proofs.Totals.{total_bound}
 use Rattle.select.specs.Word.{Packable}
 use Rattle.select.specs.Contract.{Fillable}
 use Rattle.week.specs.declared.record.Batch.{Batch}
-use Rattle.week.specs.declared.record.Week.{Week}
-use Rattle.week.specs.Record.{max_batches, max_recipes, batch_at}
+use Rattle.week.specs.Record.{Week, max_batches, max_recipes, batch_at}
 use Rattle.judge.proofs.Sound.{Sound, Named}
 use Rattle.week.proofs.Owned.{WorthsFit}
 use Rattle.planner.specs.Job.{version_from, job_from, job_list_of, week_jobs, week_choice, list_choice}

@@ -1,12 +1,11 @@
 -- What Run answers of the log that it leaves: the outcome at each position, by the records, and of a choice that meets the rule.
 use Prim.Native.Nat.{ℕ, suc, ◌≤◌}
 use native.Mathlib.Omega.{arith}
-use mathlib.Core.Path.{◌≡◌, sym, ap, ap₂, ◌∙◌}
-use mathlib.Core.Bool.{Bool, true, cond}
+use mathlib.Core.Path.{◌≡◌, refl, sym, ap, ◌∙◌}
+use mathlib.Core.Bool.{true}
 use mathlib.Core.List.{List, [], ◌∷◌, ◌++◌}
 use lib.ListN.{drop}
-use borrow.Author.Tests.{ne_eqb}
-use Rattle.std.specs.Prelude.{Some, None}
+use Rattle.std.specs.Prelude.{Option, Some, None, unwrap_or}
 use Rattle.arrays.specs.Position.{at_position}
 use Rattle.arrays.specs.Made.{tabulate}
 use Rattle.arrays.proofs.Tabulates.{length_tabulate, position_padded}
@@ -20,14 +19,18 @@ use Rattle.edf.proofs.OutcomeNumbers.{outcome_numbers_lem}
 use Rattle.edf.proofs.Workloads.{workload_outcome}
 use Rattle.edf.proofs.InTime.{stretch_in, choice_in_time}
 use Rattle.edf.proofs.Finished.{finished_by}
-use Rattle.week.specs.declared.record.Week.{Week}
-use Rattle.week.specs.Record.{max_batches, span_of}
+use Rattle.week.specs.Record.{Week, max_batches, span_of}
 use Rattle.judge.proofs.Sound.{Sound, Named}
 use Rattle.planner.specs.Job.{job_list_of, week_jobs, week_choice}
 use Rattle.planner.specs.Written.{chosen_minutes}
 use Rattle.planner.specs.Run.{RunAnswer, week_log, set_aside, log_answer, outcome_said, LogSays}
-use Rattle.planner.proofs.AsWritten.{minutes_written, aside_written}
+use Rattle.planner.proofs.AsWritten.{minutes_written, given_written}
 use Rattle.planner.proofs.Station.{take_week, feasible}
+
+-- what has minutes to read is given them
+given_some : (given : Option ℕ) → 1 ≤ unwrap_or given 0 → given ≡ Some (unwrap_or given 0)
+given_some (Some m) some = refl
+given_some None some = absurd (omega arith)
 
 module _ (w : Week) (sound : Sound w) (choice : List ℕ) (named : Named w choice) (log : List ℕ) where
   -- the answer's place at position i
@@ -44,8 +47,7 @@ module _ (w : Week) (sound : Sound w) (choice : List ℕ) (named : Named w choic
       ≡ outcome_said w choice log i
   said_at i low high =
       ap outcome_numbers (place_at i low high)
-      ∙ ap₂ (λ (aside : Bool) (m : ℕ). outcome_numbers (outcome_of (cond aside None (Some m)) w.opening log i))
-      (aside_written w sound named i low high) (minutes_written w sound named i low high)
+      ∙ ap (λ (given : Option ℕ). outcome_numbers (outcome_of given w.opening log i)) (given_written w sound named i low high)
       ∙ outcome_numbers_lem _ _ w.opening log i
 
   -- a batch that is read has the outcome of its minutes
@@ -54,8 +56,8 @@ module _ (w : Week) (sound : Sound w) (choice : List ℕ) (named : Named w choic
       ≡ outcome_of (Some (minutes_at (job_list_of w) choice i)) w.opening log i
   read_at_lem i low high some =
       place_at i low high
-      ∙ ap (λ (aside : Bool). outcome_of (cond aside None (Some (minutes_at (job_list_of w) choice i))) w.opening log i)
-      (aside_written w sound named i low high ∙ ne_eqb (chosen_minutes w choice i) 0 (λ z. omega arith))
+      ∙ ap (λ (given : Option ℕ). outcome_of given w.opening log i)
+      (given_some (given_at (job_list_of w) choice i) (omega (arith, minutes_written w sound named i low high)))
 
 module _ (w : Week) (sound : Sound w) (choice : List ℕ) (named : Named w choice) where
   -- the answer by the log

@@ -18,9 +18,8 @@ use Rattle.select.specs.Contract.{Readable, best_choice}
 use Rattle.select.proofs.Entries.{filled-take}
 use Rattle.select.proofs.BestChoices.{choice_some}
 use Rattle.select.proofs.Picks.{filled_size}
-use Rattle.week.specs.declared.record.Week.{Week}
 use Rattle.week.specs.declared.refusal.Refusal.{Refusal}
-use Rattle.week.specs.Record.{max_batches}
+use Rattle.week.specs.Record.{Week, max_batches}
 use Rattle.week.specs.Refusal.{accepted}
 use Rattle.judge.proofs.Sound.{Sound}
 use Rattle.planner.specs.Job.{job_list_of, week_jobs}

@@ -6,14 +6,10 @@ use mathlib.Core.Logic.Iff
 use mathlib.Core.Logic.{◌↔◌}
 use mathlib.Core.List.{List, [], ◌∷◌, ◌++◌}
 use lib.ListN.{length, drop}
-use Rattle.std.specs.Prelude.{Result, Ok, Err}
 use Rattle.edf.specs.Workload.{workload_of}
-use Rattle.week.specs.declared.record.Week.{Week}
-use Rattle.week.specs.declared.refusal.Fault.{Fault}
 use Rattle.week.specs.declared.refusal.Refusal.{Refusal}
-use Rattle.week.specs.Record.{max_minutes, span_of}
+use Rattle.week.specs.Record.{Week, max_minutes, span_of}
 use Rattle.week.specs.Refusal.{accepted, refused, first_of}
-use Rattle.week.specs.Fault.{refusal_of}
 use Rattle.judge.specs.Fault.{handed_faults, WellFormed, WellChosen}
 use Rattle.week.proofs.First.{Proper, number_of_lem, refuses_too, first_of_proper, append_first, append_last}
 use Rattle.week.proofs.Faults.{fault_refuses}
@@ -21,9 +17,8 @@ use Rattle.week.proofs.Passes.{first_of_passes, short_proper, short_passes, shor
 use Rattle.week.proofs.Answering.{Answers, answers, answers_name, unless_passed, unless_refused_lem}
 use Rattle.judge.proofs.WellFormed.{list_proper}
 use Rattle.judge.proofs.Sound.{sound, choice_proper}
-use Rattle.planner.specs.declared.run.WeekRun.{WeekRun}
 use Rattle.planner.specs.Job.{job_list_of}
-use Rattle.planner.specs.Run.{RunAnswer, log_fault, run_fault, week_log, log_answer, refused_run, run_answer, ran_answer, log_after, LongLog}
+use Rattle.planner.specs.Run.{RunAnswer, log_fault, run_fault, week_log, log_answer, refused_run, run_answer, log_after, LongLog}
 
 pub long_log : (w : Week) (size : ℕ) → LongLog w size ↔ (span_of w ≤ size)
 unfolding log_fault

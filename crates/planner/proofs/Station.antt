@@ -16,8 +16,7 @@ use Rattle.edf.proofs.Logs.{length_log}
 use Rattle.edf.proofs.Left.{reads_log}
 use Rattle.edf.proofs.StretchEnds.{Feasible}
 use Rattle.edf.proofs.InTime.{stretch_in, choice_in_time}
-use Rattle.week.specs.declared.record.Week.{Week}
-use Rattle.week.specs.Record.{span_of, batch_of, ready_of}
+use Rattle.week.specs.Record.{Week, span_of, batch_of, ready_of}
 use Rattle.judge.proofs.Sound.{Sound, Named}
 use Rattle.planner.specs.Job.{job_list_of, week_jobs, week_choice}
 use Rattle.planner.specs.Written.{chosen_minutes}

@@ -1,5 +1,5 @@
 -- The backward rule asks of a week's jobs what it asks of the desk's records, and gives them the same stretches.
-use Prim.Native.Nat.{ℕ, zero, suc, ◌+◌, ◌-◌, ◌≤◌, ◌<◌, min}
+use Prim.Native.Nat.{ℕ, zero, suc, ◌+◌, ◌-◌, ◌≤◌, ◌<◌}
 use native.Mathlib.Decide.{ℕ_discrete}
 use native.Mathlib.Omega.{arith}
 use mathlib.Core.Path.{◌≡◌, refl, ap, ap₂, ◌∙◌}
@@ -7,8 +7,9 @@ use mathlib.Core.Logic.Iff
 use mathlib.Core.Logic.{◌↔◌}
 use mathlib.Core.Bool.{Bool, true, false, cond, not, false≢true}
 use mathlib.Core.List.{List}
-use lib.Dec.{leb, eqb}
+use lib.Dec.{eqb}
 use borrow.Author.Tests.{leb-true, le-leb, eqb-true}
+use Rattle.std.specs.Prelude.{Some, None}
 use Rattle.arrays.specs.Position.{at_position, backward}
 use Rattle.arrays.proofs.Places.{length_backward}
 use Rattle.arrays.proofs.Tests.{zero_fails}
@@ -16,23 +17,33 @@ use Rattle.jobs.specs.declared.model.Version.{Version}
 use Rattle.jobs.specs.declared.model.Job.{Job}
 use Rattle.jobs.specs.declared.rule.Stretch.{Stretch}
 use Rattle.jobs.specs.Model.{no_job, version_at}
-use Rattle.jobs.specs.Rule.{stretch_of, fits, next_bound, meets, failing, stretches}
+use Rattle.jobs.specs.Rule.{end_of, stretch_of, fits, next_bound, meets, failing, stretches}
 use Rattle.jobs.specs.Stretches.{no_stretch, stretches_of, stretch_at}
 use Rattle.jobs.proofs.Rules.{meets_failing}
 use Rattle.jobs.proofs.Pass.{placed_stretches}
-use Rattle.week.specs.declared.record.Week.{Week}
-use Rattle.week.specs.Record.{batch_of, ready_of}
+use Rattle.week.specs.Record.{Week, batch_of, ready_of}
 use Rattle.judge.proofs.Sound.{Sound, Named}
-use Rattle.planner.specs.Job.{job_list_of, week_jobs, week_choice}
-use Rattle.planner.specs.Written.{chosen_minutes, stretch_under, bound_after, written_stretch, FitsAt, MeetsAsWritten}
+use Rattle.planner.specs.Job.{job_from, job_list_of, week_jobs, week_choice}
+use Rattle.planner.specs.Written.{chosen_minutes, chosen_worth, stretch_under, bound_after, written_stretch, FitsAt, MeetsAsWritten}
 use Rattle.planner.proofs.AsWritten.{job_written, version_written}
 
--- what the rule asks of a recipe of m minutes, as a test and as it is written: of one that is set aside, nothing
-asks_either : (ready m end x : ℕ) (q : Bool) → eqb m 0 ≡ q →
-    (cond (not q) (leb (ready + m) end) true ≡ true)
-    ↔ (1 ≤ m → ready + m ≤ (cond {A = Stretch} (not q) (record { start = end - m; end = end }) (record { start = x; end = x })).end)
-asks_either ready m end x true aside = (λ h some. absurd (omega (arith, eqb-true m 0 aside)), λ h. refl)
-asks_either ready m end x false read = (λ h some. leb-true _ _ h, λ h. le-leb _ _ (h ((zero_fails m).0 read)))
+-- the stretch of a recipe of m minutes, and what the rule asks of it, as it is written: of one that is set aside, nothing
+module _ (j : Job) (m worth x : ℕ) where
+  abbrev version_if : Bool → Version
+  version_if aside = record { minutes = cond aside None (Some m); worth = worth }
+
+  abbrev stretch_if : Bool → Stretch
+  stretch_if aside = cond (not aside) (record { start = end_of j x - m; end = end_of j x }) (record { start = x; end = x })
+
+  stretch_either : (q : Bool) → stretch_of j (version_if q) x ≡ stretch_if q
+  unfolding stretch_of
+  stretch_either true = refl
+  stretch_either false = refl
+
+  asks_either : (q : Bool) → eqb m 0 ≡ q → (fits j (version_if q) x ≡ true) ↔ (1 ≤ m → j.ready + m ≤ (stretch_if q).end)
+  unfolding fits
+  asks_either true aside = (λ h some. absurd (omega (arith, eqb-true m 0 aside)), λ h. refl)
+  asks_either false read = (λ h some. leb-true _ _ h, λ h. le-leb _ _ (h ((zero_fails m).0 read)))
 
 module _ (w : Week) (sound : Sound w) {choice : List ℕ} (named : Named w choice) where
   -- the job and the version at position i
@@ -45,18 +56,19 @@ module _ (w : Week) (sound : Sound w) {choice : List ℕ} (named : Named w choic
   -- one position under a bound: its stretch, and what the rule asks of it
   module _ (x i : ℕ) (low : 1 ≤ i) (high : i ≤ w.count) where
     stretch_under_lem : stretch_of (job_at i) (chosen_at i) x ≡ stretch_under w choice x i
-    unfolding stretch_of stretch_under
+    unfolding stretch_under
     stretch_under_lem =
         ap₂ (λ (j : Job) (v : Version). stretch_of j v x) (job_written w sound i low high) (version_written w sound named i low high)
+        ∙ stretch_either (job_from w.opening (batch_of w i)) (chosen_minutes w choice i) (chosen_worth w choice i) x _
 
     asks_under :
         (fits (job_at i) (chosen_at i) x ≡ true)
         ↔ (1 ≤ chosen_minutes w choice i →
         ready_of w.opening (batch_of w i) + chosen_minutes w choice i ≤ (stretch_under w choice x i).end)
-    unfolding fits stretch_under
+    unfolding stretch_under
     asks_under =
         rw (version_written w sound named i low high, job_written w sound i low high)
-        (asks_either (ready_of w.opening (batch_of w i)) (chosen_minutes w choice i) (min (batch_of w i).due x) x _ refl)
+        (asks_either (job_from w.opening (batch_of w i)) (chosen_minutes w choice i) (chosen_worth w choice i) x _ refl)
 
   -- the bound under which position n + 1 stands leaves the one of position n
   bound_next : (n : ℕ) → suc n ≤ w.count →

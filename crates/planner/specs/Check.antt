@@ -4,11 +4,10 @@ use Rattle.jobs.specs.declared.rule.Stretch.{Stretch}
 use Rattle.jobs.specs.Rule.{failing}
 use Rattle.jobs.specs.Choice.{total}
 use Rattle.jobs.specs.Stretches.{no_stretch, stretches_of}
-use Rattle.week.specs.declared.record.Week.{Week}
 use Rattle.week.specs.declared.refusal.Fault.{Fault}
 use Rattle.week.specs.declared.refusal.Refusal.{Refusal}
 use Rattle.planner.specs.declared.check.Checked.{Checked}
-use Rattle.week.specs.Record.{max_batches}
+use Rattle.week.specs.Record.{Week, max_batches}
 use Rattle.week.specs.Refusal.{accepted, refused_if, first_of, answer_by}
 use Rattle.week.specs.Fault.{numbers}
 use Rattle.judge.specs.Fault.{handed_faults}

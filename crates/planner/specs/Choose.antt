@@ -9,11 +9,10 @@ use Rattle.jobs.specs.Model.{no_job}
 use Rattle.jobs.specs.Choice.{total}
 use Rattle.jobs.specs.Best.{best, Chosen, SomeMeets, NoneMeets, PickSays}
 use Rattle.select.specs.Table.{filled, entry_at}
-use Rattle.week.specs.declared.record.Week.{Week}
 use Rattle.week.specs.declared.refusal.Fault.{Fault}
 use Rattle.week.specs.declared.refusal.Refusal.{Refusal}
 use Rattle.planner.specs.declared.choose.Plan.{Plan}
-use Rattle.week.specs.Record.{max_batches, max_minutes, span_of}
+use Rattle.week.specs.Record.{Week, max_batches, max_minutes, span_of}
 use Rattle.week.specs.Refusal.{accepted, refused, first_of, short_fault, unless_refused, answer_by}
 use Rattle.week.specs.Fault.{numbers}
 use Rattle.judge.specs.Fault.{list_fault}

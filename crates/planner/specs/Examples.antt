@@ -12,8 +12,7 @@ use Rattle.edf.specs.Workload.{choice_log, workload_of, outcome_at}
 use Rattle.select.specs.Table.{filled}
 use Rattle.week.specs.declared.record.Recipe.{Recipe}
 use Rattle.week.specs.declared.record.Batch.{Batch}
-use Rattle.week.specs.declared.record.Week.{Week}
-use Rattle.week.specs.Record.{max_recipes, no_recipe, span_of}
+use Rattle.week.specs.Record.{Week, max_recipes, no_recipe, span_of}
 use Rattle.week.specs.Order.{before}
 use Rattle.week.specs.Written.{written}
 use Rattle.week.specs.Refusal.{refused_if, or_else, first_of, first, short_fault, unless_refused, answer_by, at_place}

@@ -1,9 +1,8 @@
 -- When a refusal of Check, of Choose and of Run holds, and where: document 01, "Who can be refused, and why". Each asks the list first,
 -- and what is its own after it.
 use Rattle.std.specs.Prelude.{ℕ, ◌*◌, ◌<◌, List, [], ◌∷◌, ◌++◌}
-use Rattle.week.specs.declared.record.Week.{Week}
 use Rattle.week.specs.declared.refusal.Refusal.{Refusal}
-use Rattle.week.specs.Record.{span_of}
+use Rattle.week.specs.Record.{Week, span_of}
 use Rattle.week.specs.Refusal.{refused}
 use Rattle.week.specs.RefusalOrder.{◌when◌, ◌or◌, some_of}
 use Rattle.judge.specs.Holds.{ListHolds, ChoiceHolds, list_numbers}

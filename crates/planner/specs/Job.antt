@@ -1,5 +1,5 @@
 -- A week as the scheduling core sees it: the one place where a batch becomes a job.
-use Rattle.std.specs.Prelude.{ℕ, not, List, take, eqb}
+use Rattle.std.specs.Prelude.{ℕ, cond, List, take, eqb, Some, None}
 use Rattle.arrays.specs.Made.{tabulate}
 use Rattle.jobs.specs.declared.model.Version.{Version}
 use Rattle.jobs.specs.declared.model.Job.{Job}
@@ -7,12 +7,11 @@ use Rattle.jobs.specs.declared.model.JobList.{JobList}
 use Rattle.jobs.specs.Model.{jobs_of, chosen}
 use Rattle.week.specs.declared.record.Recipe.{Recipe}
 use Rattle.week.specs.declared.record.Batch.{Batch}
-use Rattle.week.specs.declared.record.Week.{Week}
-use Rattle.week.specs.Record.{max_batches, max_recipes, batch_at, recipe_at, ready_of}
+use Rattle.week.specs.Record.{Week, max_batches, max_recipes, batch_at, recipe_at, ready_of}
 
 -- a recipe, and the recipe of index k. 01: one that costs 0 "means that the batch is set aside"
 abbrev pub recipe_version : Recipe → Version
-recipe_version r = record { read = not (eqb r.cost 0); cost = r.cost; worth = r.worth }
+recipe_version r = record { minutes = cond (eqb r.cost 0) None (Some r.cost); worth = r.worth }
 
 abbrev pub version_from : Batch → ℕ → Version
 version_from b k = recipe_version (recipe_at b k)

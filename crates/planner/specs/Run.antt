@@ -9,11 +9,10 @@ use Rattle.edf.specs.declared.outcome.Outcome.TheVariants.{SetAside}
 use Rattle.edf.specs.declared.workload.Workload.{Workload}
 use Rattle.edf.specs.Run.{Reads, entries, minutes_left, minutes_before, idle, changes, up_to_last, outcome_numbers}
 use Rattle.edf.specs.Workload.{choice_log, workload_of, outcome_at}
-use Rattle.week.specs.declared.record.Week.{Week}
 use Rattle.week.specs.declared.refusal.Fault.{Fault}
 use Rattle.week.specs.declared.refusal.Refusal.{Refusal}
 use Rattle.planner.specs.declared.run.WeekRun.{WeekRun}
-use Rattle.week.specs.Record.{max_batches, batch_of, span_of, ready_of}
+use Rattle.week.specs.Record.{Week, max_batches, batch_of, span_of, ready_of}
 use Rattle.week.specs.Refusal.{accepted, first_of, short_fault, unless_refused, answer_by}
 use Rattle.week.specs.Fault.{numbers}
 use Rattle.judge.specs.Fault.{handed_faults}

@@ -4,8 +4,7 @@ use Rattle.std.specs.Prelude.{ℕ, zero, suc, ◌+◌, ◌-◌, ◌≤◌, ◌<�
 use Rattle.arrays.specs.Position.{at_position}
 use Rattle.jobs.specs.declared.rule.Stretch.{Stretch}
 use Rattle.week.specs.declared.record.Recipe.{Recipe}
-use Rattle.week.specs.declared.record.Week.{Week}
-use Rattle.week.specs.Record.{batch_of, recipe_of, ready_of}
+use Rattle.week.specs.Record.{Week, batch_of, recipe_of, ready_of}
 
 module _ (w : Week) (choice : List ℕ) where
   -- the recipe that the choice names at position i, its minutes and its worth

@@ -17,7 +17,7 @@ pub struct Checked {
     pub stretches: [Stretch; Week::MAX_BATCHES],
 }
 
-// 15, at the position where a choice breaks the rule.
+// 15, at the position where a choice breaks the rule. No `From`: neither type is of this crate.
 fn broken_at(failing: Failing) -> Fault
     ensures { result ≡ fault_at Reason.BreaksTheRule failing.position 0 }
 {

@@ -13,7 +13,8 @@ use select::table::fill;
 use week::record::Week;
 use week::refusal::{Fault, Reason};
 
-// A table that is long enough for every list: a row for each batch, with an entry for each closing minute, both ends counted.
+// A table that is long enough for every list: a row for each batch, with an entry for each closing minute, both ends counted. By `as`,
+// since `From` is not const.
 pub const MAX_PICKS: usize = Week::MAX_BATCHES * (Week::MAX_MINUTES as usize + 1);
 
 // For each batch, in list order, its recipe, and the total.

@@ -5,13 +5,12 @@ ghost use Rattle.planner.specs.Job.{recipe_version, job_from, job_list_of};
 use jobs::model::{Job, JobList, Version};
 use week::record::{Batch, Recipe, Week};
 
-// A recipe as a version. No `From`: neither type is of this crate.
+// A recipe as a version. No `From`, here and below: neither type is of this crate.
 fn version_of(r: Recipe) -> Version
     ensures { result ≡ recipe_version r }
 {
     Version {
-        read: r.cost != 0,
-        cost: r.cost,
+        minutes: (r.cost != 0).then_some(r.cost),
         worth: u32::from(r.worth),
     }
 }

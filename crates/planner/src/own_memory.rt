@@ -9,7 +9,7 @@ use crate::run::{WeekRun, run};
 use week::record::Week;
 use week::refusal::Fault;
 
-// A log that is long enough for every week.
+// A log that is long enough for every week. By `as`, since `From` is not const.
 const MAX_LOG: usize = Week::MAX_MINUTES as usize;
 
 // Made apart, so that its callers know of it how long it is and no more.

@@ -37,16 +37,19 @@ fn run_fault(week: Week, choice: &[u8], size: usize) -> Result<(), Fault>
 }
 
 // What a log says of each job of a workload, and of the week.
-#[tactic(auto, using(edf::proofs::Counts::entries_short, edf::proofs::Counts::changes_short))]
+#[tactic(auto, using(edf::proofs::Counts::short))]
 fn read_log(work: Workload, opening: u16, log: &[u8]) -> WeekRun
     requires { Runnable work opening (length log.now) }
     ensures { ran_answer (Ok result) ≡ log_answer work opening log.now }
 {
     let mut batches = [Outcome::SetAside; Week::MAX_BATCHES];
-    // By number, which the log has of a task; and after a `zip` with what is written a proof knows none of its entries.
+    // By number, which the log has of a task; and after a `zip` with what is written a proof knows none of its entries. `from_fn` would ask
+    // its closure for the places beyond the count too, with a test of the count in it.
     for (i, task) in work.tasks[..work.count].iter().enumerate() {
+        // A position is at most 16: `try_from` would test what is proved.
         batches[i] = outcome_of(task.minutes, opening, log, (i + 1) as u8);
     }
+    // The log ends at a minute that 16 bits hold, and so they hold each count of its minutes: `try_from` would test what is proved.
     WeekRun {
         idle: entries_in(log, 0) as u16,
         changes: changes_in(log) as u16,

@@ -15,7 +15,8 @@ use Rattle.week.specs.declared.record.Batch.{Batch}
 use Rattle.week.specs.Record.{max_recipes, no_recipe, recipe_at}
 use Rattle.sheet.specs.Hex.{byte_at, word_at}
 use Rattle.sheet.specs.Line.{hex_line}
-use Rattle.sheet.specs.Frame.{length_of, is_week, is_batch}
+use Rattle.sheet.specs.declared.frame.Frame.TheVariants as frame
+use Rattle.sheet.specs.Frame.{byte_of, batch_length, recipe_length, is_week, is_batch}
 use Rattle.sheet.specs.List.{recipe_from, batch_from}
 use Rattle.draft.specs.Sheet.{hex_byte, hex_value, week_frame, recipe_part, recipes_part, batch_frame}
 use Rattle.readback.specs.ReadBack.{SizedBatch, SameBatch}
@@ -30,7 +31,7 @@ fed-length bs = omega (arith, length-append (hex_bytes bs) (line_feed ∷ []), b
 
 -- the week's frame
 abbrev pub week_bytes : (t c : ℕ) → List ℕ
-week_bytes t c = 1 ∷ t / 256 ∷ t % 256 ∷ c / 256 ∷ c % 256 ∷ []
+week_bytes t c = byte_of frame.Week ∷ t / 256 ∷ t % 256 ∷ c / 256 ∷ c % 256 ∷ []
 
 pub week_spells : (t c : ℕ) → week_frame t c ≡ fed (week_bytes t c)
 unfolding week_frame hex_value hex_byte hex_bytes
@@ -61,14 +62,14 @@ module _ (b : Batch) where
   abbrev recipes_bytes : ℕ → ℕ → List ℕ
   recipes_bytes a n = flatten (tabulate recipe_bytes a n)
 
-  recipes_spell : (a n : ℕ) → flatten (tabulate (recipe_part b) a n) ≡ hex_bytes (recipes_bytes a n)
+  recipes_spell : (a n : ℕ) → flatten (tabulate (λ k. recipe_part (recipe_at b k)) a n) ≡ hex_bytes (recipes_bytes a n)
   unfolding flatten hex_value hex_byte hex_bytes
   recipes_spell a zero = refl
-  recipes_spell a (suc n) = ap (λ (l : List ℕ). recipe_part b a ++ l) (recipes_spell (suc a) n)
+  recipes_spell a (suc n) = ap (λ (l : List ℕ). recipe_part (recipe_at b a) ++ l) (recipes_spell (suc a) n)
 
   abbrev pub batch_bytes : List ℕ
   batch_bytes =
-      2 ∷ b.number / 256 ∷ b.number % 256 ∷ b.arrival / 256 ∷ b.arrival % 256 ∷ b.due / 256 ∷ b.due % 256 ∷ b.count
+      byte_of frame.Batch ∷ b.number / 256 ∷ b.number % 256 ∷ b.arrival / 256 ∷ b.arrival % 256 ∷ b.due / 256 ∷ b.due % 256 ∷ b.count
       ∷ recipes_bytes 0 b.count
 
   pub batch_spells : batch_frame b ≡ fed batch_bytes
@@ -156,16 +157,16 @@ module _ (b : Batch) where
     pub batch_is : (hex_line (batch_frame b) ≡ true) × (is_week (batch_frame b) ≡ false) × (is_batch (batch_frame b) ≡ true)
     unfolding is_week is_batch
     batch_is =
-        let long : length (fed batch_bytes) ≡ length_of (8 + 4 * b.count) = omega (arith, fed-length batch_bytes, size) in
+        let long : length (fed batch_bytes) ≡ batch_length + recipe_length * b.count = omega (arith, fed-length batch_bytes, size) in
         rw (
           batch_spells,
           bytes_line batch_bytes small,
           byte_back batch_bytes (line_feed ∷ []) small 0 (omega (arith, size)),
           count_back,
-          eq-eqb (length (fed batch_bytes)) (length_of (8 + 4 * b.count)) long,
+          eq-eqb (length (fed batch_bytes)) (batch_length + recipe_length * b.count) long,
         )
         (refl, refl, refl)
 
     -- ten recipes are the most
-    pub batch_short : length (batch_frame b) ≤ 97
+    pub batch_short : length (batch_frame b) ≤ batch_length + recipe_length * max_recipes
     batch_short = rw batch_spells (omega (arith, fed-length batch_bytes, size))

@@ -9,14 +9,14 @@ use Rattle.arrays.specs.Made.{tabulate}
 use Rattle.arrays.specs.Text.{line_feed}
 use Rattle.arrays.proofs.Tabulates.{length_tabulate, tabulate_at, tabulate_all}
 use Rattle.week.specs.declared.record.Batch.{Batch}
-use Rattle.week.specs.Record.{max_batches, empty_batch, no_batch, batch_at}
+use Rattle.week.specs.Record.{max_batches, max_recipes, empty_batch, no_batch, batch_at}
 use Rattle.sheet.specs.Line.{line_at}
-use Rattle.sheet.specs.Frame.{frame_of}
+use Rattle.sheet.specs.Frame.{batch_length, recipe_length, frame_of}
 use Rattle.sheet.specs.Fault.{max_bytes}
 use Rattle.sheet.specs.List.{batch_from, week_from}
 use Rattle.sheet.proofs.OneLine.{OneLine, lines_flatten}
 use Rattle.sheet.proofs.Placed.{WeekThenBatches, lines_pass}
-use Rattle.draft.specs.declared.record.Draft.{Draft}
+use Rattle.draft.specs.Record.{Draft}
 use Rattle.draft.specs.Sheet.{week_frame, batch_frame, batch_in, sheet_fault, Writable, batch_frames, sheet_frames, sheet_lines}
 use Rattle.draft.proofs.Framed.{writable, lines_written}
 use Rattle.readback.specs.ReadBack.{SizedBatch, Sized, SameList, ReadBack}
@@ -87,7 +87,7 @@ module _ (d : Draft) where
 
   -- no sheet is too long
   frames_short : Writable d → ((i : ℕ) → SizedBatch (batch_in d i)) → (a n : ℕ) → a + n ≤ d.count →
-      length (flatten (tabulate (λ i. batch_frame (batch_in d i)) a n)) ≤ 97 * n
+      length (flatten (tabulate (λ i. batch_frame (batch_in d i)) a n)) ≤ (batch_length + recipe_length * max_recipes) * n
   unfolding flatten
   frames_short writable sized a zero within = omega arith
   frames_short writable sized a (suc n) within =

@@ -2,12 +2,11 @@
 use Rattle.std.specs.Prelude.{ℕ, ◌≤◌, ◌<◌, ◌≡◌, List, length}
 use Rattle.arrays.specs.Bits.{max16}
 use Rattle.week.specs.declared.record.Batch.{Batch}
-use Rattle.week.specs.declared.record.Week.{Week}
-use Rattle.week.specs.Record.{batch_at, recipe_at}
+use Rattle.week.specs.Record.{Week, batch_at, recipe_at}
 use Rattle.sheet.specs.Line.{lines_of}
 use Rattle.sheet.specs.Fault.{max_bytes, lines_fault}
 use Rattle.sheet.specs.List.{sheet_week}
-use Rattle.draft.specs.declared.record.Draft.{Draft}
+use Rattle.draft.specs.Record.{Draft}
 use Rattle.draft.specs.Sheet.{batch_in}
 
 -- numbers of 16 bits, as a list and its batches have them

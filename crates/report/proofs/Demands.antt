@@ -8,9 +8,8 @@ use mathlib.Core.Logic.{◌↔◌, ⊎_elim}
 use mathlib.Core.List.{List, [], ◌∷◌, flatten}
 use lib.ListN.{length}
 use Rattle.edf.specs.Run.{idle, changes}
-use Rattle.week.specs.declared.record.Week.{Week}
 use Rattle.week.specs.declared.refusal.Refusal.{Refusal}
-use Rattle.week.specs.Record.{max_minutes}
+use Rattle.week.specs.Record.{Week, max_minutes}
 use Rattle.week.specs.RefusalOrder.{stage, FirstToHold, least_place, greatest_place, Naming, AtFault}
 use Rattle.week.proofs.First.{number_of_lem, refuses_too, append_first, append_last}
 use Rattle.week.proofs.Holding.{one_holds, append_holds, when_place, stage_ahead}

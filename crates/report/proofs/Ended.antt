@@ -10,7 +10,7 @@ use Rattle.arrays.specs.Each.{All}
 use Rattle.arrays.specs.Text.{bytes, line_feed, space}
 use Rattle.arrays.proofs.Cases.{cond_both}
 use Rattle.arrays.proofs.Tabulates.{tabulate_all}
-use Rattle.week.specs.declared.record.Week.{Week}
+use Rattle.week.specs.Record.{Week}
 use Rattle.week.specs.declared.refusal.Refusal.{Refusal}
 use Rattle.week.specs.Refusal.{unless_refused, answer_by}
 use Rattle.planner.specs.Choose.{ChooseAnswer, max_picks, choose_answer}

@@ -1,4 +1,3 @@
-pub mod Widths
 pub mod BatchLines
 pub mod Ended
 pub mod Reporting

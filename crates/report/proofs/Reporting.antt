@@ -6,9 +6,8 @@ use mathlib.Core.Logic.{inl}
 use mathlib.Core.List.{List, flatten}
 use Rattle.std.specs.Prelude.{Ok, Err}
 use Rattle.arrays.proofs.Flattened.{flatten_one}
-use Rattle.week.specs.declared.record.Week.{Week}
 use Rattle.week.specs.declared.refusal.Fault.{Fault}
-use Rattle.week.specs.Record.{max_batches, max_minutes}
+use Rattle.week.specs.Record.{Week, max_batches, max_minutes}
 use Rattle.week.specs.Fault.{numbers}
 use Rattle.judge.specs.Fault.{WellFormed}
 use Rattle.week.proofs.First.{refuses_too}
@@ -25,7 +24,7 @@ use Rattle.sheet.specs.Read.{ReadAnswer, refused_reading, answer_of, read_answer
 use Rattle.text.specs.Line.{refusal_line}
 use Rattle.report.specs.Report.{lines_by, plan_lines, week_lines, report_lines, report_of}
 use Rattle.report.specs.Contract.{Printable}
-use Rattle.report.proofs.Said.{minutes_long, check_accepts, run_accepts}
+use Rattle.report.proofs.Said.{minutes_long, accepts}
 
 -- of a list
 module _ (w : Week) where
@@ -76,21 +75,20 @@ module _ (w : Week) (plan : Plan) (is : chosen_answer (Ok plan) ≡ choose_answe
   pub few : w.count ≤ max_batches
   few = (sound w (planned_list w planned)).most
 
-  pub check_done : (fault : Fault) → checked_answer (Err fault) ≡ check_answer w choice → ⊥
-  unfolding refused_check
-  check_done fault e =
-      fault_refuses fault
-      (ap (λ (a : CheckAnswer). a.refusal.number) e
-      ∙ subst (λ (p : ChooseAnswer). (check_answer w (plan_choice w p)).refusal.number ≡ 0) (sym is)
-      (check_accepts w best (planned_list w planned) (choose_names w max_picks planned) (choose_meets w max_picks planned)))
-
-  pub run_done : (fault : Fault) → ran_answer (Err fault) ≡ run_answer w choice max_minutes → ⊥
-  unfolding refused_run
-  run_done fault e =
-      fault_refuses fault
-      (ap (λ (a : RunAnswer). a.refusal.number) e
-      ∙ subst (λ (p : ChooseAnswer). (run_answer w (plan_choice w p) max_minutes).refusal.number ≡ 0) (sym is)
-      (run_accepts w best (planned_list w planned) (choose_names w max_picks planned) (choose_meets w max_picks planned)))
+  pub not_refused : (fault : Fault) →
+      (checked_answer (Err fault) ≡ check_answer w choice → ⊥) × (ran_answer (Err fault) ≡ run_answer w choice max_minutes → ⊥)
+  unfolding refused_check refused_run
+  not_refused fault =
+      let accepted =
+      subst
+      (λ (p : ChooseAnswer).
+      ((check_answer w (plan_choice w p)).refusal.number ≡ 0)
+      × ((run_answer w (plan_choice w p) max_minutes).refusal.number ≡ 0))
+      (sym is)
+      (accepts w best (planned_list w planned) (choose_names w max_picks planned) (choose_meets w max_picks planned)) in (
+        λ e. fault_refuses fault (ap (λ (a : CheckAnswer). a.refusal.number) e ∙ accepted.0),
+        λ e. fault_refuses fault (ap (λ (a : RunAnswer). a.refusal.number) e ∙ accepted.1),
+      )
 
   module _ {checked : CheckAnswer} (done : checked ≡ check_answer w choice) where
     pub printable_lem : Printable w checked

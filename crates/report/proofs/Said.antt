@@ -14,8 +14,7 @@ use Rattle.edf.specs.declared.outcome.Outcome.{Outcome}
 use Rattle.edf.specs.declared.outcome.Outcome.TheVariants.{SetAside, Finished, Unfinished}
 use Rattle.edf.specs.Run.{idle, changes, outcome_numbers}
 use Rattle.edf.specs.Workload.{workload_of}
-use Rattle.week.specs.declared.record.Week.{Week}
-use Rattle.week.specs.Record.{max_minutes}
+use Rattle.week.specs.Record.{Week, max_minutes}
 use Rattle.judge.specs.Fault.{WellFormed}
 use Rattle.judge.proofs.Sound.{sound, Named, choice_passes}
 use Rattle.planner.specs.Job.{job_list_of, week_jobs, week_choice}
@@ -61,13 +60,9 @@ module _
     counts_said = rw ran_log (refl, refl)
 
     -- neither Check nor Run refuses it
-    pub check_accepts : (check_answer w choice).refusal.number ≡ 0
-    unfolding passed
-    check_accepts = ap (λ (a : CheckAnswer). a.refusal.number) checked
-
-    pub run_accepts : ran.refusal.number ≡ 0
-    unfolding log_answer
-    run_accepts = ap (λ (a : RunAnswer). a.refusal.number) ran_log
+    pub accepts : ((check_answer w choice).refusal.number ≡ 0) × (ran.refusal.number ≡ 0)
+    unfolding passed log_answer
+    accepts = (ap (λ (a : CheckAnswer). a.refusal.number) checked, ap (λ (a : RunAnswer). a.refusal.number) ran_log)
 
     -- the position in the array that Choose answers is that in the choice
     recipe_at_lem : (i : ℕ) → 1 ≤ i → i ≤ w.count → at_position 0 plan.choice i ≡ at_position 0 choice i

@@ -2,9 +2,8 @@
 use Rattle.std.specs.Prelude.{ℕ, ◌≤◌, List, Result, Ok, Err}
 use Rattle.arrays.specs.Position.{at_position}
 use Rattle.jobs.specs.Stretches.{no_stretch}
-use Rattle.week.specs.declared.record.Week.{Week}
 use Rattle.week.specs.declared.refusal.Fault.{Fault}
-use Rattle.week.specs.Record.{max_batches}
+use Rattle.week.specs.Record.{Week, max_batches}
 use Rattle.week.specs.Fault.{numbers}
 use Rattle.planner.specs.Check.{CheckAnswer}
 use Rattle.text.specs.Line.{refusal_line}

@@ -3,13 +3,12 @@ use Rattle.std.specs.Prelude.{ℕ, ◌+◌, ◌*◌, List, [], ◌∷◌, map}
 use Rattle.arrays.specs.Text.{bytes}
 use Rattle.week.specs.Record.{max_batches}
 use Rattle.text.specs.Decimal.{decimal}
-use Rattle.text.specs.Line.{line_of, week_width}
+use Rattle.text.specs.Line.{line_of, counts, week_width}
 use Rattle.report.specs.declared.line.BatchLine.{BatchLine}
 
 -- "total 22 changes 4 idle 10"
 unfoldable pub total_line : (total changes idle : ℕ) → List ℕ
-total_line total changes idle =
-    line_of (bytes "total") (decimal total ∷ bytes "changes" ∷ decimal changes ∷ bytes "idle" ∷ decimal idle ∷ [])
+total_line total changes idle = line_of (bytes "total") (decimal total ∷ counts changes idle)
 
 -- "7 2 10 10 20 10": "A batch line is number, recipe, cost as it counts in the rule, start and end of stretch, finish"
 unfoldable pub batch_line : BatchLine → List ℕ

@@ -8,9 +8,8 @@ use Rattle.jobs.specs.Stretches.{no_stretch, stretch_at}
 use Rattle.edf.specs.declared.outcome.Outcome.{Outcome}
 use Rattle.edf.specs.declared.outcome.Outcome.TheVariants.{SetAside, Finished, Unfinished}
 use Rattle.week.specs.declared.record.Batch.{Batch}
-use Rattle.week.specs.declared.record.Week.{Week}
 use Rattle.week.specs.declared.refusal.Refusal.{Refusal}
-use Rattle.week.specs.Record.{max_minutes, batch_of}
+use Rattle.week.specs.Record.{Week, max_minutes, batch_of}
 use Rattle.week.specs.Refusal.{refused, first_of, answer_by}
 use Rattle.week.specs.RefusalOrder.{◌when◌, ◌or◌}
 use Rattle.planner.specs.Job.{job_list_of}

@@ -27,12 +27,5 @@ fn sheet_text(sheet: &[u8]) -> Result<Text<MAX_TEXT>, Fault>
 pub fn report(sheet: &[u8]) -> Text<MAX_TEXT>
     ensures { result ≡ report_of sheet.now }
 {
-    match sheet_text(sheet) {
-        Ok(text) => text,
-        Err(fault) => {
-            let mut text = Text::new();
-            text.refusal_line(fault);
-            text
-        }
-    }
+    sheet_text(sheet).unwrap_or_else(Text::refused)
 }

@@ -16,7 +16,7 @@ pub const MAX_TEXT: usize = WEEK_WIDTH + TOTAL_WIDTH + Week::MAX_BATCHES * BATCH
 
 // What the line of a batch says. Document 01: "A batch line is number, recipe, cost as it counts in the rule, start and end of
 // stretch, finish (0 if set aside)."
-#[derive(Clone, Copy)]
+#[derive(Clone, Copy, Debug, PartialEq, Eq)]
 pub(crate) struct BatchLine {
     pub number: u16,
     pub recipe: u8,
@@ -27,19 +27,18 @@ pub(crate) struct BatchLine {
 }
 
 // The second line, as "total 22 changes 4 idle 10".
-#[tactic(auto, using(std::proofs::lemmas::Grind::common_steps, crate::proofs::Widths::total_ten, crate::proofs::Widths::minutes_five))]
+#[tactic(auto, using(text::proofs::Decimals::widths), unfolding(crate::specs::Line::total_line, text::specs::Line::spaced))]
 pub(crate) fn total_line(text: &mut Text<MAX_TEXT>, total: u32, changes: u16, idle: u16)
     requires { length text.old + total_width ≤ max_text }
     ensures line { text.new ≡ text.old ++ total_line total changes idle }
     ensures width { length text.new ≤ length text.old + total_width }
 {
     text.put_named(b"total", total);
-    text.put_named(b" changes", changes);
-    text.put_named(b" idle", idle);
-    text.put(b"\n");
+    text.counts(changes, idle);
 }
 
 // A batch's line, as "7 2 10 10 20 10".
+#[tactic(auto, using(text::proofs::Decimals::widths, crate::proofs::BatchLines::others_short), unfolding(crate::specs::Line::batch_line))]
 pub(crate) fn batch_line(text: &mut Text<MAX_TEXT>, line: BatchLine)
     requires { length text.old + batch_width ≤ max_text }
     ensures line { text.new ≡ text.old ++ batch_line line }

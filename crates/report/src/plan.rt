@@ -52,7 +52,9 @@ fn plan_text(week: Week, plan: Plan, checked: Checked, ran: WeekRun) -> Text<MAX
     let mut text = Text::new();
     text.week_line(week.opening, week.closing);
     total_line(&mut text, plan.total, ran.changes, ran.idle);
-    // By index in three of the four arrays: a zip of all four nests three deep, and is no plainer.
+    // By index in three of the four arrays: a zip of all four nests three deep, and is no plainer. Nor is a function over a closure that
+    // puts the parts: its bound `Fn` can name no const parameter, so that it sees the text by a trait with one impl, and it asks its
+    // caller for the width and the parts that the invariant here says.
     for (i, batch) in week.batches[..week.count].iter().enumerate() {
         let line = line_of(*batch, plan.choice[i], checked.stretches[i], ran.batches[i]);
         batch_line(&mut text, line);

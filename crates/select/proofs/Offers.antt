@@ -9,6 +9,7 @@ use mathlib.Core.Bool.{Bool, true, false, cond}
 use mathlib.Core.List.{List}
 use lib.ListN.{length, get_or}
 use borrow.Author.Tests.{le-leb, ne_eqb}
+use Rattle.std.specs.Prelude.{Option, Some, None, is_some, unwrap_or}
 use Rattle.arrays.proofs.Cases.{cond_both}
 use Rattle.arrays.proofs.Patches.{patched_same, patched_widen}
 use Rattle.jobs.specs.declared.model.Version.{Version}
@@ -42,8 +43,8 @@ module _ (j : Job) (k t : ℕ) (scores : List ℕ) {v : Version} (is : v ≡ ver
       (cond_both (λ y. y ≤ b + word) (fits j v (t + m)) (omega (arith, raised_low (get_or scores at 0) word, low at)) (omega arith))
 
   -- from the due minute on a version that is read offers the same: the close counts only by the end of the stretch
-  pub offered_level : v.read ≡ true → (e m : ℕ) → e ≡ due_entry j t (length scores) → e < length scores → e ≤ m →
-      offered j k t scores e ≡ offered j k t scores m
+  pub offered_level : {minutes : ℕ} → v.minutes ≡ Some minutes → (e m : ℕ) → e ≡ due_entry j t (length scores) →
+      e < length scores → e ≤ m → offered j k t scores e ≡ offered j k t scores m
   unfolding offered_at fits
   offered_level read e m due inside over =
       let same : end_of j (t + e) ≡ end_of j (t + m) = omega arith in
@@ -58,7 +59,7 @@ module _ (j : Job) (k t : ℕ) (scores : List ℕ) {v : Version} (is : v ≡ ver
     raised_some i l u = let some = starts.some i l u in rw (ne_eqb (get_or scores i 0) 0 (λ e. omega arith))
 
     -- set aside
-    module _ (aside : v.read ≡ false) where
+    module _ (aside : v.minutes ≡ None) where
       offered_aside : (m : ℕ) → offered j k t scores m ≡ raised (get_or scores m 0) word
       unfolding offered_at fits
       offered_aside m =
@@ -66,9 +67,9 @@ module _ (j : Job) (k t : ℕ) (scores : List ℕ) {v : Version} (is : v ≡ ver
           rw (offered_at_lem m, bound_aside j v (t + m) aside, at, aside)
 
     -- read: by the end of its stretch, against the earliest that it can have
-    module _ (read : v.read ≡ true) where
+    module _ {minutes : ℕ} (read : v.minutes ≡ Some minutes) where
       abbrev first : ℕ
-      first = max (j.ready - t) f + v.cost
+      first = max (j.ready - t) f + minutes
 
       end_none : (m : ℕ) → end_of j (t + m) < t + first → offered j k t scores m ≡ 0
       unfolding offered_at
@@ -81,11 +82,11 @@ module _ (j : Job) (k t : ℕ) (scores : List ℕ) {v : Version} (is : v ≡ ver
           by_fit false fit = refl
 
       end_some : (m : ℕ) → m < length scores → t + first ≤ end_of j (t + m) →
-          offered j k t scores m ≡ get_or scores (end_of j (t + m) - v.cost - t) 0 + word
+          offered j k t scores m ≡ get_or scores (end_of j (t + m) - minutes - t) 0 + word
       unfolding offered_at fits
       end_some m inside early =
-          rw (offered_at_lem m, bound_read j v (t + m) read, read, le-leb (j.ready + v.cost) (end_of j (t + m)) (omega arith))
-          (raised_some (end_of j (t + m) - v.cost - t) (omega arith) (omega arith))
+          rw (offered_at_lem m, bound_read j v (t + m) read, read, le-leb (j.ready + minutes) (end_of j (t + m)) (omega arith))
+          (raised_some (end_of j (t + m) - minutes - t) (omega arith) (omega arith))
 
       -- its first entry is the earliest end, unless the due minute is before that
       first_cases :
@@ -93,8 +94,8 @@ module _ (j : Job) (k t : ℕ) (scores : List ℕ) {v : Version} (is : v ≡ ver
           ⊎ ((j.due < t + first) × (first_offer j v t f (length scores) ≡ length scores))
       first_cases =
           elim (dec_le (t + first) j.due) [
-            | yes early ↦ inl (early, first_early j v t f (length scores) read refl early)
-            | no late ↦ inr (omega arith, first_late j v t f (length scores) read refl (omega arith))
+            | yes early ↦ inl (early, first_early j v t f (length scores) read early)
+            | no late ↦ inr (omega arith, first_late j v t f (length scores) read (omega arith))
           ]
 
       read_before : (m : ℕ) → m < length scores → m < first_offer j v t f (length scores) → offered j k t scores m ≡ 0
@@ -109,17 +110,17 @@ module _ (j : Job) (k t : ℕ) (scores : List ℕ) {v : Version} (is : v ≡ ver
           omega (
             arith,
             end_some m inside early,
-            starts.some (end_of j (t + m) - v.cost - t) (omega arith) (omega arith),
+            starts.some (end_of j (t + m) - minutes - t) (omega arith) (omega arith),
           ))
           (λ c. absurd (omega (arith, c)))
           first_cases
 
-      -- up to the due minute it starts `cost` minutes before the close
+      -- up to the due minute it starts its minutes before the close
       read_shifted : (m : ℕ) → m < length scores → first_offer j v t f (length scores) ≤ m → t + m ≤ j.due →
-          shifted scores v.cost word m ≡ offered j k t scores m
+          shifted scores minutes word m ≡ offered j k t scores m
       read_shifted m inside u low =
           let end : end_of j (t + m) ≡ t + m = omega arith in
-          let at : t + m - v.cost - t ≡ m - v.cost = omega arith in
+          let at : t + m - minutes - t ≡ m - minutes = omega arith in
           ⊎_elim (λ c. sym (rw (end, at) at (end_some m inside (omega (arith, c))))) (λ c. absurd (omega (arith, c))) first_cases
 
     -- by whether it is read
@@ -128,37 +129,37 @@ module _ (j : Job) (k t : ℕ) (scores : List ℕ) {v : Version} (is : v ≡ ver
 
     -- a version is offered from its first entry on, and not before
     pub offered_before : (m : ℕ) → m < length scores → m < begins → offered j k t scores m ≡ 0
-    offered_before m inside l = by_read v.read refl
+    offered_before m inside l = by_minutes v.minutes refl
       where
-        by_read : (q : Bool) → v.read ≡ q → offered j k t scores m ≡ 0
-        by_read true read = read_before read m inside l
-        by_read false aside = offered_aside aside m ∙ raised_none m (omega (arith, first_aside j v t f (length scores) aside))
+        by_minutes : (o : Option ℕ) → v.minutes ≡ o → offered j k t scores m ≡ 0
+        by_minutes (Some minutes) read = read_before read m inside l
+        by_minutes None aside = offered_aside aside m ∙ raised_none m (omega (arith, first_aside j v t f (length scores) aside))
 
     pub offered_from : (m : ℕ) → m < length scores → begins ≤ m → 0 < offered j k t scores m
-    offered_from m inside u = by_read v.read refl
+    offered_from m inside u = by_minutes v.minutes refl
       where
-        by_read : (q : Bool) → v.read ≡ q → 0 < offered j k t scores m
-        by_read true read = read_from read m inside u
-        by_read false aside =
+        by_minutes : (o : Option ℕ) → v.minutes ≡ o → 0 < offered j k t scores m
+        by_minutes (Some minutes) read = read_from read m inside u
+        by_minutes None aside =
             let some = raised_some m (omega (arith, first_aside j v t f (length scores) aside)) inside in
             let more = starts.some m (omega (arith, first_aside j v t f (length scores) aside)) inside in
             omega (arith, offered_aside aside m, some)
 
     -- it starts at the opening or later
     pub begins_high : begins < length scores → minutes_of v ≤ begins
-    begins_high inside = by_read v.read refl
+    begins_high inside = by_minutes v.minutes refl
       where
-        by_read : (q : Bool) → v.read ≡ q → minutes_of v ≤ begins
-        by_read true read =
+        by_minutes : (o : Option ℕ) → v.minutes ≡ o → minutes_of v ≤ begins
+        by_minutes (Some minutes) read =
             ⊎_elim (λ c. omega (arith, c, minutes_read v read)) (λ c. absurd (omega (arith, c))) (first_cases read)
-        by_read false aside = let minutes : minutes_of v ≡ 0 = rw aside in omega (arith, minutes)
+        by_minutes None aside = let none : minutes_of v ≡ 0 = rw aside in omega (arith, none)
 
     -- what is taken from the first entry on is taken from 0 on
-    taken_whole : (cost b : ℕ) → b ≤ length scores →
-        ((m : ℕ) → begins ≤ m → m < b → shifted scores cost word m ≡ offered j k t scores m) →
-        {words words' : List ℕ} → Taken (shifted scores cost word) begins b words words' →
+    taken_whole : (minutes b : ℕ) → b ≤ length scores →
+        ((m : ℕ) → begins ≤ m → m < b → shifted scores minutes word m ≡ offered j k t scores m) →
+        {words words' : List ℕ} → Taken (shifted scores minutes word) begins b words words' →
         Taken (offered j k t scores) 0 b words words'
-    taken_whole cost b most same {words} h =
+    taken_whole minutes b most same {words} h =
         patched_widen (patched_same h (λ m l u. ap (max (get_or words m 0)) (same m l u))) 0 b (λ m l u. (omega arith, u))
         (λ m l u.
         ⊎_elim (λ out. omega (arith, offered_before m (omega arith) out)) (λ out. absurd (omega arith)))
@@ -166,28 +167,29 @@ module _ (j : Job) (k t : ℕ) (scores : List ℕ) {v : Version} (is : v ≡ ver
     module _ (e : ℕ) (due : e ≡ due_entry j t (length scores)) where
       -- what `offer` takes
       pub offer_taken : {words words' : List ℕ} →
-          Taken (shifted scores (minutes_of v) word) begins (cond v.read e (length scores)) words words' →
-          Taken (offered j k t scores) 0 (cond (version_of j k).read e (length scores)) words words'
-      offer_taken {words} {words'} h = rw (← is) (by_read v.read refl h)
+          Taken (shifted scores (minutes_of v) word) begins (cond (is_some v.minutes) e (length scores)) words words' →
+          Taken (offered j k t scores) 0 (cond (is_some (version_of j k).minutes) e (length scores)) words words'
+      offer_taken {words} {words'} h = rw (← is) (by_minutes v.minutes refl h)
         where
-          by_read : (q : Bool) → v.read ≡ q →
-              Taken (shifted scores (cond q v.cost 0) word) begins (cond q e (length scores)) words words' →
-              Taken (offered j k t scores) 0 (cond q e (length scores)) words words'
-          by_read true read =
-              taken_whole v.cost e (omega arith) (λ m l u. read_shifted read m (omega arith) l (omega arith))
-          by_read false aside =
+          by_minutes : (o : Option ℕ) → v.minutes ≡ o →
+              Taken (shifted scores (unwrap_or o 0) word) begins (cond (is_some o) e (length scores)) words words' →
+              Taken (offered j k t scores) 0 (cond (is_some o) e (length scores)) words words'
+          by_minutes (Some minutes) read =
+              taken_whole minutes e (omega arith) (λ m l u. read_shifted read m (omega arith) l (omega arith))
+          by_minutes None aside =
               taken_whole 0 (length scores) (omega arith)
               (λ m l u.
               let at : m - 0 ≡ m = omega arith in
               rw at (sym (offered_aside aside m ∙ raised_some m (omega (arith, first_aside j v t f (length scores) aside)) u)))
 
       -- what `due_offer` answers
-      pub due_offered : v.read ≡ true → e < length scores → due_offer v k begins e scores ≡ offered j k t scores e
+      pub due_offered : {minutes : ℕ} → v.minutes ≡ Some minutes → e < length scores →
+          due_offer v k begins e scores ≡ offered j k t scores e
       due_offered read inside =
           elim (dec_le begins e) [
             | yes l ↦ due_passes v k begins e scores read l inside ∙ read_shifted read e inside l (due_minute l)
             | no l ↦
-                due_fails v k begins e scores (inr (inl (omega arith)))
+                due_fails v k begins e scores (inl (omega arith))
                 ∙ sym (offered_before e inside (omega arith))
           ]
         where

@@ -5,22 +5,23 @@ use native.Mathlib.Numerals.{add-one}
 use native.Mathlib.Omega.{arith}
 use mathlib.Core.Path.{◌≡◌, refl, ap, ◌∙◌}
 use mathlib.Core.Logic.{◌⊎◌, inl, inr, ⊎_elim}
-use mathlib.Core.Bool.{Bool, true, false, cond}
+use mathlib.Core.Bool.{cond}
 use mathlib.Core.List.{List}
 use lib.ListN.{length, get_or, take}
+use Rattle.std.specs.Prelude.{Option, Some, None, is_some}
 use Rattle.arrays.proofs.Cases.{cond_both}
 use Rattle.arrays.proofs.Patches.{patched_all}
 use Rattle.jobs.specs.declared.model.Version.{Version}
 use Rattle.jobs.specs.declared.model.Job.{Job}
 use Rattle.jobs.specs.Model.{no_version, version_of, minutes_of}
-use Rattle.select.specs.Word.{word_of, word_limit}
+use Rattle.select.specs.Word.{word_of}
 use Rattle.select.specs.Row.{offered, first_offer, shifted, Offerable, due_offer, Taken}
 use Rattle.select.proofs.Slices.{front_at}
-use Rattle.select.proofs.OfferAnswers.{due_fails}
+use Rattle.select.proofs.OfferAnswers.{due_aside, due_fails}
 use Rattle.select.proofs.Offers.{offered_low, offered_level, offered_before, offered_from, begins_high, offer_taken}
 use Rattle.select.proofs.Offers.{due_offered}
 use Rattle.select.proofs.Cells.{cell_step}
-use Rattle.select.proofs.Rows.{Ready, Bounded, word_at, at_early, at_late, Row, limited}
+use Rattle.select.proofs.Rows.{Ready, Bounded, word_at, at_early, at_late, Row}
 
 -- a version of a job's list, counted from 0
 pub listed : (j : Job) (k : ℕ) → k < length (take j.count j.versions) →
@@ -52,30 +53,31 @@ module _
       due_cases : (due ≡ offer e) ⊎ (due ≡ 0)
       due_cases =
           elim (dec_lt e (length scores)) [
-            | yes l ↦ by_read l v.read refl
-            | no l ↦ inr (due_fails v (k + 1) first e scores (inr (inr (omega arith))))
+            | yes l ↦ by_minutes l v.minutes refl
+            | no l ↦ inr (due_fails v (k + 1) first e scores (inr (omega arith)))
           ]
         where
-          by_read : e < length scores → (q : Bool) → v.read ≡ q → (due ≡ offer e) ⊎ (due ≡ 0)
-          by_read l true read = inl (due_offered j (k + 1) t scores is job.ready job.starts e job.due read l)
-          by_read l false aside = inr (due_fails v (k + 1) first e scores (inl aside))
+          by_minutes : e < length scores → (o : Option ℕ) → v.minutes ≡ o → (due ≡ offer e) ⊎ (due ≡ 0)
+          by_minutes l (Some minutes) read = inl (due_offered j (k + 1) t scores is job.ready job.starts e job.due read l)
+          by_minutes l None aside = inr (due_aside v (k + 1) first e scores aside)
 
       due_low : Bounded scores due
       due_low b below = ⊎_elim (λ c. omega (arith, c, offer_low e b below)) (λ c. omega (arith, c)) due_cases
 
       module _
-          {words' : List ℕ} (taken : Taken offer 0 (cond (version_of j (k + 1)).read e (length scores)) words words')
+          {words' : List ℕ}
+          (taken : Taken offer 0 (cond (is_some (version_of j (k + 1)).minutes) e (length scores)) words words')
           {level' : ℕ} (raised : level' ≡ max level due)
         where
           -- from the due minute on, where a version that is read offers the same
-          late_step : (q : Bool) → v.read ≡ q → Taken offer 0 (cond q e (length scores)) words words' →
+          late_step : (o : Option ℕ) → v.minutes ≡ o → Taken offer 0 (cond (is_some o) e (length scores)) words words' →
               (m : ℕ) → e ≤ m → m < length scores → max (get_or words' m 0) level' ≡ max (max (get_or words m 0) level) (offer m)
-          late_step true read h m l u =
+          late_step (Some minutes) read h m l u =
               let same = offered_level j (k + 1) t scores is read e m job.due (omega arith) l in
               let at = due_offered j (k + 1) t scores is job.ready job.starts e job.due read (omega arith) in
               omega (arith, h.kept m (λ i. omega arith), same, at)
-          late_step false aside h m l u =
-              omega (arith, h.done m (omega arith) u, due_fails v (k + 1) first e scores (inl aside))
+          late_step None aside h m l u =
+              omega (arith, h.done m (omega arith) u, due_aside v (k + 1) first e scores aside)
 
           step_at : (m : ℕ) → m < length scores → word_at e words' level' m ≡ max (word_at e words level m) (offer m)
           step_at m u =
@@ -85,14 +87,14 @@ module _
                       arith,
                       at_early e words level m l,
                       at_early e words' level' m l,
-                      taken.done m (omega arith) (cond_both (λ b. m < b) (version_of j (k + 1)).read l u),
+                      taken.done m (omega arith) (cond_both (λ b. m < b) (is_some (version_of j (k + 1)).minutes) l u),
                     )
                 | no l ↦
                     omega (
                       arith,
                       at_late e words level m (omega arith),
                       at_late e words' level' m (omega arith),
-                      late_step (version_of j (k + 1)).read (ap (λ (u : Version). u.read) is) taken m (omega arith) u,
+                      late_step (version_of j (k + 1)).minutes (ap (λ (u : Version). u.minutes) is) taken m (omega arith) u,
                     )
               ]
 
@@ -140,11 +142,9 @@ module _
         version_asked =
             (rw is (job.packable (k + 1) (omega arith) (omega arith)), omega arith, omega (arith, job.few), first_high)
 
-        pub due_small : {x : ℕ} → x ≡ due_offer v (k + 1) start e scores → x < word_limit
-        due_small answered = rw (answered, begins) (limited job due_low)
-
         pub row_step : {words' : List ℕ} →
-            Taken (shifted scores (minutes_of v) (word_of v.worth (k + 1))) start (cond v.read e (length scores)) words words' →
+            Taken (shifted scores (minutes_of v) (word_of v.worth (k + 1))) start (cond (is_some v.minutes) e (length scores)) words
+            words' →
             {level' : ℕ} → level' ≡ max level (due_offer v (k + 1) start e scores) →
             {next' : ℕ} → next' ≡ min next start → Row j t e scores words' level' next' (k + 1)
         row_step taken raised least =
@@ -152,3 +152,9 @@ module _
             (row_more
             (offer_taken j (k + 1) t scores is job.ready job.starts e job.due (rw begins at taken))
             (rw begins at raised))
+
+    -- what `offer` and `due_offer` ask, of the version at index k of the job's list
+    pub version_listed : k < length (take j.count j.versions) → {start : ℕ} →
+        start ≡ first_offer j (get_or (take j.count j.versions) k no_version) t f (length scores) →
+        Offerable (get_or (take j.count j.versions) k no_version) (k + 1) start (length scores)
+    version_listed more begins = let is = listed j k more in version_asked is.0 is.1 begins

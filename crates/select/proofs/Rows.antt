@@ -82,7 +82,7 @@ module _ {j : Job} {t e f : ℕ} {scores : List ℕ} (job : Ready j t e f scores
           ]
 
   -- what is bounded is below the limit
-  pub limited : {x : ℕ} → Bounded scores x → x < word_limit
+  limited : {x : ℕ} → Bounded scores x → x < word_limit
   limited bounded = omega (arith, bounded (word_limit - 1 - max_word) (λ m. omega (arith, job.low m)))
 
   module _ {words : List ℕ} {level next k : ℕ} (h : Row j t e scores words level next k) where

@@ -1,5 +1,6 @@
 -- The traceback: the table is read from the last job to the first, each pick under the bound that the jobs after it leave.
 use Prim.Native.Nat.{ℕ, suc, ◌+◌, ◌-◌, ◌*◌, ◌≤◌, ◌<◌}
+use native.Mathlib.Numerals.{unary_clauses}
 use native.Mathlib.Omega.{arith}
 use mathlib.Core.Path.{◌≡◌, refl, sym, ap, subst, ◌∙◌}
 use mathlib.Core.Bool.{true}
@@ -22,7 +23,6 @@ use Rattle.jobs.proofs.Rules.{bound_in}
 use Rattle.jobs.proofs.BestOfAll.{best_some}
 use Rattle.jobs.proofs.Parts.{Parts, pick_none, pick_some}
 use Rattle.jobs.proofs.ChoiceArrays.{length_choice}
-use Rattle.select.specs.Table.{entry_at}
 use Rattle.select.specs.Contract.{Readable, best_choice}
 use Rattle.select.proofs.Entries.{Entry, entry_in, table_entry}
 
@@ -80,42 +80,37 @@ module _
     unfolding best
     trace_end first = sym (subst (λ (n : ℕ). Traceback list t w close table array x n) first h).answer
 
-    -- one job, in place i - 1 of the array, and its pick
-    module _ (more : 0 < i) where
-      entry : Entry list t w i x
-      entry = record { first = more; last = h.within; from = h.from; to = omega (arith, h.to, h.readable.inside) }
+    -- one job, in place `at` of the array, and its pick
+    module _ (at : ℕ) (last : i ≡ suc at) where
+      here : Traceback list t w close table array x (suc at)
+      here = subst (λ (n : ℕ). Traceback list t w close table array x n) last h
 
-      pub trace_index : entry_at t w i x < length table
-      trace_index = omega (arith, entry_in entry, h.readable.fillable.long)
+      entry : Entry list t w (suc at) x
+      entry = record { first = omega arith; last = here.within; from = h.from; to = omega (arith, h.to, h.readable.inside) }
 
-      below : i - 1 < list.count
-      below = omega (arith, h.within)
+      pub trace_index : at * w + (x - t) < length table
+      trace_index = omega (arith, simp unary_clauses at (entry_in entry), h.readable.fillable.long)
+
+      below : at < list.count
+      below = omega (arith, here.within)
 
       abbrev j : Job
-      j = get_or list.jobs (i - 1) no_job
+      j = get_or list.jobs at no_job
 
       abbrev before : List Job
-      before = backward no_job list.jobs (i - 1)
-
-      position : i ≡ suc (i - 1)
-      position = omega arith
-
-      here : Traceback list t w close table array x (suc (i - 1))
-      here = subst (λ (n : ℕ). Traceback list t w close table array x n) position h
+      before = backward no_job list.jobs at
 
       -- m is the minute that the pick is looked up at, from the opening on
       module _ {m : ℕ} (minute : m ≡ x - t) where
         abbrev k : ℕ
-        k = get_or table ((i - 1) * w + m) 0
+        k = get_or table (at * w + m) 0
 
         picked : k ≡ pick (j ∷ before) x
-        picked =
-            rw minute (table_entry entry table h.readable.rows)
-            ∙ ap (λ (n : ℕ). pick (backward no_job list.jobs n) x) position
+        picked = rw minute (simp unary_clauses at (table_entry entry table h.readable.rows))
 
         -- a pick of 0: no choice exists
         pub trace_none : k ≡ 0 → None ≡ best_choice (best (jobs_of list) close)
-        trace_none zero = sym (here.answer ∙ ap (completed array (suc (i - 1))) (pick_none j before x (sym picked ∙ zero)))
+        trace_none zero = sym (here.answer ∙ ap (completed array (suc at)) (pick_none j before x (sym picked ∙ zero)))
 
         -- any other names a version of the job that fits
         module _ (other : k ≡ 0 → ⊥) where
@@ -123,7 +118,7 @@ module _
           parts = pick_some j before x picked other
 
           pub trace_named : (1 ≤ k) × (k ≤ max_versions)
-          trace_named = (parts.2.low, omega (arith, parts.2.high, h.readable.fillable.few (i - 1) below))
+          trace_named = (parts.2.low, omega (arith, parts.2.high, h.readable.fillable.few at below))
 
           module _ {v : Version} (named : v ≡ version_of j k) where
             pub trace_fits : fits j v x ≡ true
@@ -131,17 +126,17 @@ module _
 
             -- s is its stretch
             pub trace_step : {s : Stretch} → s ≡ stretch_of j v x →
-                Traceback list t w close table (set array (i - 1) k) s.start (i - 1)
+                Traceback list t w close table (set array at k) s.start at
             unfolding next_bound
             trace_step {s} kept =
                 let next : next_bound j v x ≡ s.start = ap (λ (q : Stretch). q.start) (sym kept) in
-                let bound = bound_in j v x t (h.readable.fillable.ready (i - 1) below) h.from trace_fits in
+                let bound = bound_in j v x t (h.readable.fillable.ready at below) h.from trace_fits in
                 record {
                   readable = h.readable;
                   within = omega (arith, below);
                   from = omega (arith, bound.0);
                   to = omega (arith, bound.1, h.to);
-                  size = length-set array (i - 1) k ∙ h.size;
+                  size = length-set array at k ∙ h.size;
                   answer =
                       here.answer
                       ∙ rw (
@@ -149,6 +144,6 @@ module _
                         ← next,
                         named,
                         parts.2.rest,
-                        stored array (i - 1) k parts.0 (omega (arith, below, h.size, h.readable.fillable.most)),
+                        stored array at k parts.0 (omega (arith, below, h.size, h.readable.fillable.most)),
                       );
                 }

@@ -1,5 +1,5 @@
 -- One row of the programme, as numbers: what each of its functions leaves. Entry m of a row is for the close t + m.
-use Rattle.std.specs.Prelude.{ℕ, ◌+◌, ◌-◌, ◌*◌, ◌≤◌, ◌<◌, max, min, ◌≡◌, cond, ◌&&◌, List, ◌∷◌, length, get_or, leb, ltb}
+use Rattle.std.specs.Prelude.{ℕ, ◌+◌, ◌-◌, ◌*◌, ◌≤◌, ◌<◌, max, min, ◌≡◌, cond, ◌&&◌, List, ◌∷◌, length, get_or, leb, ltb, Some, None}
 use Rattle.arrays.specs.Made.{tabulate}
 use Rattle.arrays.specs.Patched.{Patched}
 use Rattle.jobs.specs.declared.model.Version.{Version}
@@ -34,13 +34,14 @@ offered j k t scores m =
 -- it comes too late for its due minute
 unfoldable pub first_offer : Job → Version → ℕ → ℕ → ℕ → ℕ
 first_offer j v t f w =
-    cond v.read
-    (cond (leb (t + (max (j.ready - t) f + v.cost)) j.due) (max (j.ready - t) f + v.cost) w)
-    f
+    elim v.minutes [
+      | Some minutes ↦ cond (leb (t + (max (j.ready - t) f + minutes)) j.due) (max (j.ready - t) f + minutes) w
+      | None ↦ f
+    ]
 
--- what a version of word w offers at entry m, from its first on, if it starts `cost` minutes earlier
+-- what a version of word w offers at entry m, from its first on, if it starts `minutes` earlier
 abbrev pub shifted : List ℕ → ℕ → ℕ → ℕ → ℕ
-shifted scores cost w m = get_or scores (m - cost) 0 + w
+shifted scores minutes w m = get_or scores (m - minutes) 0 + w
 
 -- what `offer` and `due_offer` ask of version k, which is v, and of its first entry in a row of n
 abbrev pub Offerable : Version → ℕ → ℕ → ℕ → Type 0
@@ -54,7 +55,10 @@ due_entry j t w = min (j.due - t) w
 -- that, or the row ends before
 unfoldable pub due_offer : Version → ℕ → ℕ → ℕ → List ℕ → ℕ
 due_offer v k first e scores =
-    cond (v.read && leb first e && ltb e (length scores)) (shifted scores v.cost (word_of v.worth k) e) 0
+    elim v.minutes [
+      | Some minutes ↦ cond (leb first e && ltb e (length scores)) (shifted scores minutes (word_of v.worth k) e) 0
+      | None ↦ 0
+    ]
 
 -- from entry a up to b an offer is taken where it is greater than the word that stands
 abbrev pub Taken : (ℕ → ℕ) → ℕ → ℕ → List ℕ → List ℕ → Type 0

@@ -7,7 +7,7 @@ ghost use Rattle.select.specs.Contract.{Readable, best_choice};
 use jobs::model::JobList;
 
 // The best choice, in list order. It goes from the last job to the first: each pick is looked up under the bound that the jobs after
-// it leave.
+// it leave. No struct holds what the table is read with: it would be made for the one call and taken apart in it.
 pub fn read_off(
     list: JobList,
     opening: u16,
@@ -20,15 +20,14 @@ pub fn read_off(
 {
     let mut choice = [0; JobList::MAX_JOBS];
     let mut bound = close;
-    // By number: it tells the row of the table, the job and the place of its recipe.
-    for at in (0..list.count).rev() {
+    // Stored by number: after a `zip` with what is written a proof knows none of its entries; and the number tells the row of the table.
+    for (at, j) in list.jobs[..list.count].iter().enumerate().rev() {
         let m = usize::from(bound - opening);
         let k = table[at * width + m];
         if k == 0 {
             return None;
         }
         choice[at] = k;
-        let j = list.jobs[at];
         let s = j.stretch(j.version(k), bound);
         bound = s.start;
     }

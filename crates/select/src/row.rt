@@ -54,6 +54,7 @@ pub(crate) fn fill_row(
     let mut level: u32 = 0;
     let mut next = width;
     for (i, v) in j.versions[..j.count].iter().enumerate() {
+        // A job has at most 10 versions: `try_from` would test what is proved.
         let k = (i + 1) as u8;
         let first = first_offer(j, *v, opening, from, width);
         offer(*v, k, first, due, scores, words);

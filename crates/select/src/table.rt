@@ -9,11 +9,12 @@ use crate::row::fill_row;
 use crate::word::NO_JOBS;
 use jobs::model::JobList;
 
-// The entries of a row for the longest week.
+// The entries of a row for the longest week. By `as`, since `From` is not const.
 const ROW: usize = (JobList::MAX_SPAN as usize) + 1;
 
 // Document 01, "The picks table". A row has `width` entries, one for each close from the opening on. Worths are bounded so that 32
-// bits hold every word.
+// bits hold every word. No struct holds the list, the opening, the width and the table: it would be made for the one call and taken
+// apart in it.
 pub fn fill(list: JobList, opening: u16, width: usize, table: &mut [u8])
     requires fillable { Fillable list opening width (length table.old) }
     requires packable { (i : ℕ) → i < list.count → Packable (get_or list.jobs i no_job) }
@@ -24,7 +25,7 @@ pub fn fill(list: JobList, opening: u16, width: usize, table: &mut [u8])
     scores[..width].fill(NO_JOBS);
     let mut from = 0;
     for (i, j) in list.jobs[..list.count].iter().enumerate() {
-        // By number: after `chunks_exact_mut` a proof knows no entry of the table, and must not be asked for a width of 0.
+        // By number: after `chunks_exact_mut`, which takes no width of 0, a proof knows no entry of the table.
         let at = i * width;
         from = fill_row(
             *j,

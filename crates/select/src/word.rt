@@ -36,7 +36,7 @@ pub(crate) fn score_part(x: u32) -> u32
     x - x % RADIX
 }
 
-// The version of a word; 0 where it has none.
+// The version of a word; 0 where it has none. A remainder by 16, which 8 bits hold: `try_from` would test what is proved.
 pub(crate) fn version_part(x: u32) -> u8
     ensures { result ≡ version_part x }
 {

@@ -8,8 +8,7 @@ use Rattle.arrays.specs.Made.{tabulate, padded}
 use Rattle.arrays.proofs.Tabulates.{length_tabulate, padded_each}
 use Rattle.arrays.proofs.Places.{replicate_at, position_beyond}
 use Rattle.week.specs.declared.record.Batch.{Batch}
-use Rattle.week.specs.declared.record.Week.{Week}
-use Rattle.week.specs.Record.{max_batches, max_recipes, no_recipe, empty_batch, no_batch, empty_week, batch_of, recipe_of}
+use Rattle.week.specs.Record.{Week, max_batches, max_recipes, no_recipe, empty_batch, no_batch, empty_week, batch_of, recipe_of}
 use Rattle.sheet.specs.Hex.{byte_at, word_at}
 use Rattle.sheet.specs.Line.{lines_of, line_at}
 use Rattle.sheet.specs.List.{recipe_from, batch_from, week_from, sheet_week}

@@ -3,7 +3,7 @@ use Prim.Native.Nat.{ℕ, zero, suc, ◌+◌, ◌≤◌, ◌<◌, min}
 use native.Mathlib.Decide.{ℕ_discrete, dec_lt}
 use native.Mathlib.Omega.{arith}
 use mathlib.Core.Bool.{Bool}
-use mathlib.Core.Path.{◌≡◌, refl, ap, ◌∙◌}
+use mathlib.Core.Path.{◌≡◌, refl, sym, ap, subst, ◌∙◌}
 use mathlib.Core.Logic.{◌↔◌}
 use mathlib.Core.List.{List, [], ◌∷◌, ◌++◌, append-nil}
 use lib.ListN.{length, get_or, take, drop, length-append}
@@ -12,8 +12,12 @@ use lib.Seq.{take_at, drop_at}
 use borrow.Author.Tests.{eq-eqb, ne_eqb, eqb-true, eqb-false}
 use denote.Param.Members.{Mut}
 use denote.Ref.{Bor}
+use Rattle.std.specs.Prelude.{Option, Some, MatchOption}
 use Rattle.std.specs.Fn.{Called, ComputesKey}
 use Rattle.std.specs.List.{IsFirstMatchOrLen}
+use Rattle.std.specs.declared.slice.SplitInclusive.{SplitInclusive}
+use Rattle.std.proofs.lemmas.Iterator.{YieldsList}
+use Rattle.std.proofs.lemmas.Iterator.Consumers.{YieldsList-from_shown}
 use Rattle.std.proofs.lemmas.Fn.{always_returns_same}
 use Rattle.arrays.specs.Text.{line_feed}
 use Rattle.sheet.specs.Line.{joined, lines_of}
@@ -95,15 +99,29 @@ pub next_line : {F : Type 0} (g : Mut F (Bor ℕ × Unit {0}) Bool) (f f' : F) {
 next_line g f f' rest (cut, (i, size, at), some) key =
     first_cut rest cut i size (at is_feed (always_returns_same g (λ a r. r ≡ is_feed a.0.now) f key)).1 some
 
--- a sheet has no more lines than bytes
-joined_length : (b : ℕ) (lines : List (List ℕ)) → length (joined b lines) ≤ suc (length lines)
-joined_length b [] = omega arith
-joined_length b (line ∷ lines) = omega arith
+-- so all its turns give the lines
+module _ {F : Type 0} (g : Mut F (Bor ℕ × Unit {0}) Bool) where
+  abbrev pub line_steps : SplitInclusive ℕ F → Option (Bor (List ℕ)) → SplitInclusive ℕ F → Type 0
+  line_steps s r t =
+      MatchOption r ((length s.rest.now ≡ 0) × (t ≡ s)) (
+      λ x. (s.rest.now ≡ x.now ++ t.rest.now)
+      × ((i : ℕ)
+      × (length x.now ≡ min (i + 1) (length s.rest.now))
+      × ((p : ℕ → Bool) → ComputesKey g p s.pred → ComputesKey g p t.pred × IsFirstMatchOrLen p s.rest.now i))
+      × (0 < length s.rest.now)
+      )
 
-pub lines_most : (s : List ℕ) → length (lines_of s) ≤ length s
-lines_most [] = omega arith
-lines_most (b ∷ bs) =
-    elim (ℕ_discrete b line_feed) [
-      | yes e ↦ rw (lines_feed b bs e) (omega (arith, lines_most bs))
-      | no n ↦ rw (lines_other b bs n) (omega (arith, lines_most bs, joined_length b (lines_of bs)))
-    ]
+  pub lines_yielded : {s : SplitInclusive ℕ F} →
+      ((f : F) (a : Bor ℕ × Unit {0}) (r : Bool) (q : F) → Called g f a r q → (r ≡ is_feed a.0.now) × (q ≡ f)) →
+      YieldsList line_steps (λ y. y.now) s (lines_of s.rest.now)
+  lines_yielded {s} key =
+      YieldsList-from_shown line_steps (λ y. y.now) (λ u. lines_of u.rest.now) (λ u t over. (lines_none _).1 over.0)
+      (λ u x t turn. next_line g _ _ _ turn (key u.pred)) s
+
+  -- and the first turn gives the first line
+  pub first_next : (s t : SplitInclusive ℕ F) {r : Option (Bor (List ℕ))} {line : Bor (List ℕ)} {sheet : List ℕ} →
+      s.rest.now ≡ sheet → r ≡ Some line → line_steps s r t →
+      ((a : Bor ℕ × Unit {0}) (b : Bool) (q : F) → Called g s.pred a b q → (b ≡ is_feed a.0.now) × (q ≡ s.pred)) →
+      lines_of sheet ≡ line.now ∷ lines_of t.rest.now
+  first_next s t {line = line} rest is turn key =
+      ap lines_of (sym rest) ∙ next_line g _ _ t.rest.now (subst (λ (o : Option (Bor (List ℕ))). line_steps s o t) is turn) key

@@ -1,21 +1,29 @@
 -- Lines that 16 and 17 pass: the first is a week, and each later one a batch.
 use Prim.Native.Nat.{ℕ, zero, suc, ◌≤◌, ◌<◌}
 use native.Mathlib.Omega.{arith}
-use mathlib.Core.Path.{◌≡◌, refl}
+use mathlib.Core.Bool.{Bool}
+use mathlib.Core.Path.{◌≡◌, refl, sym, ap, ◌∙◌}
 use mathlib.Core.Logic.Iff
 use mathlib.Core.Logic.{◌↔◌}
 use mathlib.Core.List.{List, [], ◌∷◌}
 use lib.ListN.{length}
 use borrow.Author.Tests.{eqb-true, eqb-false, ne_eqb, not-false}
+use denote.Param.Members.{Mut}
+use denote.Ref.{Bor}
 use Rattle.std.specs.Prelude.{Option, Some, None}
+use Rattle.std.specs.Fn.{Called}
+use Rattle.std.specs.declared.slice.SplitInclusive.{SplitInclusive}
 use Rattle.arrays.proofs.Tests.{zero_fails}
 use Rattle.week.proofs.First.{number_of_lem, refused_if_none, refused_if_false}
 use Rattle.week.proofs.Passes.{Passes, if_passes, first_of_passes, first_passes}
 use Rattle.sheet.specs.declared.frame.Frame.{Frame}
 use Rattle.sheet.specs.declared.frame.Frame.TheVariants.{Week, Batch}
 use Rattle.sheet.specs.Line.{lines_of, line_at}
+use Rattle.sheet.specs.Frame as spec
 use Rattle.sheet.specs.Frame.{frame_of}
 use Rattle.sheet.specs.Fault.{frame_fault, line_fault, lines_fault}
+use Rattle.sheet.proofs.Lines.{is_feed, line_steps, first_next}
+use Rattle.sheet.proofs.Frames.{week_length}
 
 -- the first line
 week_passes : (f : Option Frame) → Passes (frame_fault 1 f) ↔ (f ≡ Some Week)
@@ -72,3 +80,13 @@ module _ (lines : List (List ℕ)) where
 pub placed_bytes : (sheet : List ℕ) → (lines_fault (lines_of sheet)).number ≡ 0 → 0 < length sheet
 placed_bytes [] passed = ((lines_pass []).0 passed).some
 placed_bytes (b ∷ bs) passed = omega arith
+
+-- and the week's line is long enough to be read
+pub first_read : {F : Type 0} (g : Mut F (Bor ℕ × Unit {0}) Bool) (s t : SplitInclusive ℕ F) {r : Option (Bor (List ℕ))}
+    {line : Bor (List ℕ)} {sheet : List ℕ} → (lines_fault (lines_of sheet)).number ≡ 0 → s.rest.now ≡ sheet → r ≡ Some line →
+    line_steps g s r t →
+    ((a : Bor ℕ × Unit {0}) (b : Bool) (q : F) → Called g s.pred a b q → (b ≡ is_feed a.0.now) × (q ≡ s.pred)) →
+    length line.now ≡ spec.week_length
+first_read g s t passed rest is turn key =
+    let is_first = ap (λ (lines : List (List ℕ)). frame_of (line_at lines 0)) (sym (first_next g s t rest is turn key)) in
+    week_length _ (is_first ∙ ((lines_pass _).0 passed).week)

@@ -3,8 +3,7 @@ use Rattle.std.specs.Prelude.{ℕ, suc, ◌+◌, ◌*◌, ◌-◌, min, List, le
 use Rattle.arrays.specs.Made.{tabulate, padded}
 use Rattle.week.specs.declared.record.Recipe.{Recipe}
 use Rattle.week.specs.declared.record.Batch.{Batch}
-use Rattle.week.specs.declared.record.Week.{Week}
-use Rattle.week.specs.Record.{max_batches, max_recipes, no_recipe, empty_batch}
+use Rattle.week.specs.Record.{Week, max_batches, max_recipes, no_recipe, empty_batch}
 use Rattle.sheet.specs.Hex.{byte_at, word_at}
 use Rattle.sheet.specs.Line.{lines_of, line_at}
 

@@ -1,10 +1,9 @@
 -- Reading a sheet: what is answered, on every sequence of bytes.
 use Rattle.std.specs.Prelude.{ℕ, ◌≤◌, ◌<◌, ◌≡◌, List, [], ◌∷◌, length, Some, Result, Ok, Err}
 use Rattle.arrays.specs.Position.{at_position}
-use Rattle.week.specs.declared.record.Week.{Week}
 use Rattle.week.specs.declared.refusal.Fault.{Fault}
 use Rattle.week.specs.declared.refusal.Refusal.{Refusal}
-use Rattle.week.specs.Record.{no_recipe, empty_batch, empty_week, batch_of, recipe_of}
+use Rattle.week.specs.Record.{Week, no_recipe, empty_batch, empty_week, batch_of, recipe_of}
 use Rattle.week.specs.Refusal.{accepted, first_of, answer_by}
 use Rattle.week.specs.Fault.{numbers}
 use Rattle.judge.specs.Fault.{list_fault, WellFormed}

@@ -1,29 +1,39 @@
 // What a line is.
 ghost use Rattle.std.specs.Prelude.{◌≡◌};
-ghost use Rattle.sheet.specs.Frame.{is_week, is_batch, frame_of};
+ghost use Rattle.sheet.specs.Frame.{byte_of, is_week, is_batch, frame_of};
 
 use crate::hex::byte_at;
 use crate::line::is_hex_line;
 
+// Each has its byte in document 01, "The sheet".
 #[derive(Clone, Copy, Debug, PartialEq, Eq)]
-pub(crate) enum Frame {
-    Week,
-    Batch,
+pub enum Frame {
+    Week = 1,
+    Batch = 2,
 }
 
-// The length of a week's line, of a batch's line without recipes, and of each recipe on it.
-const WEEK_LENGTH: usize = 11;
+impl Frame {
+    // The byte that its line begins with, which a cast alone gives.
+    pub fn byte(self) -> u8
+        ensures { result ≡ byte_of self }
+    {
+        self as u8
+    }
+}
 
-const BATCH_LENGTH: usize = 17;
+// The length of a week's line, of a batch's line without recipes, and of each recipe on it, line feeds counted.
+pub const WEEK_LENGTH: usize = 11;
 
-const RECIPE_LENGTH: usize = 8;
+pub const BATCH_LENGTH: usize = 17;
+
+pub const RECIPE_LENGTH: usize = 8;
 
 // Document 01: "Week: 01, t, c."
 #[tactic(auto, unfolding(crate::specs::Frame::is_week))]
 fn is_week(line: &[u8]) -> bool
     ensures { result ≡ is_week line.now }
 {
-    line.len() == WEEK_LENGTH && byte_at(line, 0) == 1
+    line.len() == WEEK_LENGTH && byte_at(line, 0) == Frame::Week.byte()
 }
 
 // Document 01: "Batch: 02, number, r, d, one byte with the count of recipes, then cost and worth for each. The length must agree
@@ -32,7 +42,7 @@ fn is_week(line: &[u8]) -> bool
 fn is_batch(line: &[u8]) -> bool
     ensures { result ≡ is_batch line.now }
 {
-    if line.len() < BATCH_LENGTH || byte_at(line, 0) != 2 {
+    if line.len() < BATCH_LENGTH || byte_at(line, 0) != Frame::Batch.byte() {
         return false;
     }
     let count = usize::from(byte_at(line, 7));

@@ -2,7 +2,7 @@
 #![tactic(auto)]
 
 mod fault;
-mod frame;
+pub mod frame;
 mod hex;
 mod line;
 mod list;

@@ -5,13 +5,11 @@ ghost use Rattle.sheet.specs.Line.{hex_line};
 
 use crate::hex::digit;
 
-const LINE_FEED: u8 = b'\n';
-
 // Document 01: "Each line is one frame .., ended by a line feed." `split_inclusive` cuts a sheet after each byte of which this is true.
 pub(crate) fn ends_line(b: &u8) -> bool
     ensures { result ≡ (b.now == line_feed) }
 {
-    *b == LINE_FEED
+    *b == b'\n'
 }
 
 // Whether a line is digits, ended by a line feed.

@@ -28,17 +28,12 @@ fn batch_of(line: &[u8]) -> Batch
     ensures { result ≡ batch_from line.now }
 {
     let count = usize::from(byte_at(line, 7));
-    let mut recipes = Batch::empty().recipes;
-    let stored = count.min(Batch::MAX_RECIPES);
-    for (k, recipe) in recipes[..stored].iter_mut().enumerate() {
-        *recipe = recipe_of(line, k);
-    }
     Batch {
         number: word_at(line, 1),
         arrival: word_at(line, 3),
         due: word_at(line, 5),
         count,
-        recipes,
+        recipes: Batch::stored(count, |k| recipe_of(line, k)),
     }
 }
 
@@ -50,18 +45,15 @@ pub(crate) fn week_of(sheet: &[u8]) -> Week
     let mut lines = sheet.split_inclusive(ends_line);
     let first = lines.next().unwrap();
     let mut batches = [Batch::empty(); Week::MAX_BATCHES];
-    // Counted by hand: the count goes on after the last place, and is the list's, which `enumerate` would not hand out.
-    let mut n = 0;
-    for line in lines {
-        if n < Week::MAX_BATCHES {
-            batches[n] = batch_of(line);
-        }
-        n += 1;
+    // Stored by number: after a `zip` with what is written a proof knows none of its entries.
+    for (place, line) in lines.take(Week::MAX_BATCHES).enumerate() {
+        batches[place] = batch_of(line);
     }
     Week {
         opening: word_at(first, 1),
         closing: word_at(first, 3),
-        count: n,
+        // Cut once more: a `clone` of the lines that are left is a `Result`.
+        count: sheet.split_inclusive(ends_line).count() - 1,
         batches,
     }
 }

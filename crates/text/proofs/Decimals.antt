@@ -10,6 +10,7 @@ use mathlib.Core.List.{List, [], ◌∷◌, ◌++◌}
 use lib.ListN.{length, length-append}
 use lib.Dec.{ltb}
 use borrow.Author.Tests.{lt-ltb, le-ltb, ltb-false}
+use Rattle.std.proofs.lemmas.Grind.{common_steps}
 use Rattle.std.proofs.lemmas.Fmt.{AppendsLastDigit, decimal_from_appends, length-decimal-le_succ}
 use Rattle.std.specs.Fmt.{decimal as std_decimal}
 use Rattle.text.specs.Decimal.{digit, spelt, decimal}
@@ -61,6 +62,16 @@ decimal_short (suc k) n below =
           rw (decimal_more n (omega arith), length-append)
           (omega (arith, decimal_short k (n / 10) (tenth_below (suc k) n below)))
     ]
+
+-- numbers of 16 bits, and of 32
+pub decimal_five : (n : ℕ) → n < 2 ^ 16 → length (decimal n) ≤ 5
+decimal_five n fits = decimal_short 4 n (omega arith)
+
+pub decimal_ten : (n : ℕ) → n < 2 ^ 32 → length (decimal n) ≤ 10
+decimal_ten n fits = decimal_short 9 n (omega arith)
+
+-- both, beside the usual steps
+pub ruleset widths = (common_steps, decimal_five, decimal_ten)
 
 -- std's spelling of a number, by which the digits of a type are printed, is the one here
 printed_steps : AppendsLastDigit spelt

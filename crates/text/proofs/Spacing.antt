@@ -2,11 +2,11 @@
 use Prim.Native.Nat.{ℕ, suc, ◌+◌, ◌*◌, ◌^◌, ◌≤◌, ◌<◌}
 use native.Mathlib.Omega.{arith}
 use mathlib.Core.Path.{◌≡◌, refl, sym, ap, ◌∙◌}
-use mathlib.Core.List.{List, [], ◌∷◌, ◌++◌, map, map-append, append_assoc}
+use mathlib.Core.List.{List, [], ◌∷◌, ◌++◌, map, map-append, append-nil, append_assoc}
 use lib.ListN.{length, length-append}
-use Rattle.arrays.specs.Text.{line_feed, space}
+use Rattle.arrays.specs.Text.{bytes, line_feed, space}
 use Rattle.text.specs.Decimal.{decimal}
-use Rattle.text.specs.Line.{spaced, rest_of}
+use Rattle.text.specs.Line.{spaced, rest_of, line_of, named, counts}
 use Rattle.text.proofs.Decimals.{decimal_short}
 
 abbrev pub numbers : List ℕ → List ℕ
@@ -64,6 +64,27 @@ rest_more field fields = append_assoc (space ∷ field) (spaced fields) (line_fe
 pub rest_none : rest_of [] ≡ line_feed ∷ []
 unfolding spaced
 rest_none = refl
+
+-- a word and its number, as fields after spaces
+pub named_fields : (word : List ℕ) (n : ℕ) → spaced (word ∷ decimal n ∷ []) ≡ named (space ∷ word) n
+unfolding spaced
+named_fields word n = ap (λ (l : List ℕ). (space ∷ word) ++ l) (append-nil (space ∷ decimal n))
+
+-- a line of the two, and how many bytes it has
+named_parts : (word : List ℕ) (n : ℕ) → line_of word (decimal n ∷ []) ≡ named word n ++ (line_feed ∷ [])
+named_parts word n = simp (rest_more, rest_none, append_assoc)
+
+pub named_size : (word : List ℕ) (n : ℕ) → length (line_of word (decimal n ∷ [])) ≡ length (named word n) + 1
+named_size word n = ap length (named_parts word n) ∙ length-append (named word n) (line_feed ∷ [])
+
+-- what a line of a run ends with, in the order in which it is put
+pub counts_parts : (changes idle : ℕ) →
+    rest_of (counts changes idle) ≡ named (bytes " changes") changes ++ (bytes " idle" ++ rest_of (decimal idle ∷ []))
+counts_parts changes idle = simp rest_more
+
+-- of which what follows "idle" is a number of five digits, and the line feed
+pub idle_rest : (idle : ℕ) → idle < 2 ^ 16 → length (rest_of (decimal idle ∷ [])) ≤ 7
+idle_rest idle fits = rest_short 4 (idle ∷ []) (omega arith, tt)
 
 -- what follows "week": two numbers of five digits, and the line feed
 pub week_rest : (opening closing : ℕ) → opening < 2 ^ 16 → closing < 2 ^ 16 →

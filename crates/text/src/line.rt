@@ -2,7 +2,7 @@
 ghost use Rattle.std.specs.Prelude.{◌≡◌, ◌+◌, ◌≤◌, ◌++◌, map, length};
 ghost use Rattle.week.specs.Fault.{numbers};
 ghost use Rattle.text.specs.Decimal.{decimal};
-ghost use Rattle.text.specs.Line.{rest_of, week_line, refusal_line, week_width, refusal_width};
+ghost use Rattle.text.specs.Line.{rest_of, week_line, refusal_line, counts, week_width, refusal_width, counts_width};
 
 use crate::number::Number;
 use crate::put::Text;
@@ -34,12 +34,32 @@ impl<const N: usize> Text<N> {
 
     // The one line of a refusal. Document 01: "A refusal writes one line only, "refused" and its three numbers".
     #[tactic(auto, unfolding(crate::specs::Line::refusal_line))]
-    pub fn refusal_line(&mut self, fault: Fault)
+    pub fn refusal_line(&mut self, refusal: Refusal)
         requires { length self.old + refusal_width ≤ N }
-        ensures { self.new ≡ self.old ++ refusal_line (numbers fault) }
+        ensures { self.new ≡ self.old ++ refusal_line refusal }
     {
-        let refusal = Refusal::from(fault);
         self.put(b"refused");
         self.rest(&[usize::from(refusal.number), refusal.place, refusal.recipe]);
+    }
+
+    // What is answered of a refusal: its line, and nothing else.
+    pub fn refused(fault: Fault) -> Self
+        requires { refusal_width ≤ N }
+        ensures { result ≡ refusal_line (numbers fault) }
+    {
+        let mut text = Text::new();
+        text.refusal_line(fault.into());
+        text
+    }
+
+    // What a line of a run ends with, as " changes 4 idle 10". Two numbers, since a run, which has both, is not known here.
+    pub fn counts(&mut self, changes: u16, idle: u16)
+        requires { length self.old + counts_width ≤ N }
+        ensures counts { self.new ≡ self.old ++ rest_of (counts changes idle) }
+        ensures width { length self.new ≤ length self.old + counts_width }
+    {
+        self.put_named(b" changes", changes);
+        self.put(b" idle");
+        self.rest(&[idle]);
     }
 }

@@ -6,7 +6,8 @@ ghost use Rattle.text.specs.Decimal.{decimal};
 
 use itoa::Buffer;
 
-// Each type has an impl of its own, since the kit takes no impls that a macro of the repository writes.
+// Each type has an impl of its own, since the kit takes no impls that a macro of the repository writes. By `itoa::Integer` alone a text
+// is std's `decimal`, so that each caller would owe `printed` of each number; and after `write!` nothing says that there was room.
 pub trait Number: Copy {
     ghost value: { Self → ℕ };
 

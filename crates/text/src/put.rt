@@ -2,15 +2,16 @@
 ghost use Rattle.std.specs.Prelude.{◌≡◌, ◌+◌, ◌≤◌, [], ◌∷◌, ◌++◌, map, length};
 ghost use Rattle.arrays.specs.Text.{space};
 ghost use Rattle.text.specs.Decimal.{decimal};
-ghost use Rattle.text.specs.Line.{spaced};
+ghost use Rattle.text.specs.Line.{named, spaced};
 
 use crate::number::Number;
 use arrayvec::ArrayVec;
 use itoa::Buffer;
 use std::marker::Model;
 
-// A text of at most `N` bytes. A clause sees it as the list of its bytes.
-#[derive(Drop)]
+// A text of at most `N` bytes. A clause sees it as the list of its bytes. Each method asks for the room of what it puts, by its part:
+// a caller's proof adds parts up, and no struct has to say how much room is left.
+#[derive(Clone, Debug, PartialEq, Eq, Drop)]
 pub struct Text<const N: usize> {
     bytes: ArrayVec<u8, N>,
 }
@@ -21,6 +22,9 @@ impl<const N: usize> Model for Text<N> {
     ghost Value = { List ℕ };
 
     ghost view = { λ text. text.bytes.items };
+
+    // The field again, which the derived `==` reads.
+    ghost inverse = { λ bytes. record { bytes = record { items = bytes } } };
 }
 
 impl<const N: usize> Text<N> {
@@ -66,8 +70,8 @@ impl<const N: usize> Text<N> {
 
     // A word, and a number after it.
     pub fn put_named<I: Number>(&mut self, word: &[u8], n: I)
-        requires { length self.old + length (word.now ++ (space ∷ decimal (I.value n))) ≤ N }
-        ensures { self.new ≡ self.old ++ (word.now ++ (space ∷ decimal (I.value n))) }
+        requires { length self.old + length (named word.now (I.value n)) ≤ N }
+        ensures { self.new ≡ self.old ++ named word.now (I.value n) }
     {
         self.put(word);
         self.put_number(n);

@@ -10,6 +10,7 @@ use mathlib.Core.Bool.{Bool, true, false}
 use mathlib.Core.List.{List, [], ◌∷◌, ◌++◌, map}
 use lib.Dec.{eqb}
 use borrow.Author.Tests.{eqb-false, eq-eqb, ne_eqb}
+use Rattle.std.proofs.Common.{Option, Some, None, MatchOption}
 use Rattle.week.specs.declared.refusal.Refusal.{Refusal}
 use Rattle.week.specs.Refusal.{accepted, refused, refused_if, or_else, first_of, first, unless_refused, at_place}
 
@@ -123,7 +124,7 @@ module _ (r : Refusal) (rs : List Refusal) where
   unfolding first_of
   first_of_none = or_none r (first_of rs)
 
-first_of_one : (r : Refusal) → Proper r → first_of (r ∷ []) ≡ r
+pub first_of_one : (r : Refusal) → Proper r → first_of (r ∷ []) ≡ r
 unfolding first_of
 first_of_one = or_accepted
 
@@ -238,3 +239,24 @@ module _ (f : ℕ → Refusal) where
       first f 0 (n - 0) ≡ first_of (refused_if number place recipe holds ∷ first f 0 n ∷ [])
   search_after number place recipe n e =
       rw sub-zero (sym (first_of_last _ _ (number_of_lem (refused_if_false number place recipe e)) (first_proper 0 n)))
+
+  -- the first whose test is found to hold, and what is answered of it, or of none
+  module _ (n number : ℕ) (place recipe : ℕ → ℕ) (test : ℕ → Bool) (some : eqb number 0 ≡ false)
+      (is : (i : ℕ) → i < n → f i ≡ refused_if number (place i) (recipe i) (test i)) where
+    passed : (i : ℕ) → i < n → test i ≡ false → (f i).number ≡ 0
+    passed i low fails = number_of_lem (is i low ∙ refused_if_false number (place i) (recipe i) fails)
+
+    reached : (i : ℕ) → i ≤ n → ((h : ℕ) → h < i → test h ≡ false) → first f i (n - i) ≡ first f 0 n
+    reached zero low before = rw sub-zero
+    reached (suc i) low before =
+        let rest = reached i (omega arith) (λ h l. before h (omega arith)) in
+        rw (← add-one i) (search_on i n rest (omega arith) (passed i (omega arith) (before i (omega arith))))
+
+    pub first_found : (found : Option ℕ) (answer : Refusal) →
+        MatchOption found ((i : ℕ) → i < n → test i ≡ false)
+        (λ i. (i < n) × (test i ≡ true) × ((h : ℕ) → h < i → test h ≡ false)) →
+        MatchOption found (answer ≡ accepted) (λ i. answer ≡ refused number (place i) (recipe i)) → answer ≡ first f 0 n
+    first_found None answer none e = e ∙ sym (none_first n (λ i low. passed i low (none i low)))
+    first_found (Some i) answer (low, holds, before) e =
+        search_found i n (reached i (omega arith) before) low
+        (e ∙ sym (is i low ∙ refused_if_true number (place i) (recipe i) holds)) (refuses number some e)

@@ -8,8 +8,7 @@ use lib.Seq.{length-take-le, take-append_seam, drop-append-add}
 use Rattle.arrays.specs.Made.{padded}
 use Rattle.arrays.proofs.Places.{length_padded, drop-replicate}
 use Rattle.week.specs.declared.record.Batch.{Batch}
-use Rattle.week.specs.declared.record.Week.{Week}
-use Rattle.week.specs.Record.{max_batches, empty_batch}
+use Rattle.week.specs.Record.{Week, max_batches, empty_batch}
 use Rattle.week.specs.Order.{insert_in}
 use Rattle.week.specs.Written.{batches_of, written}
 use Rattle.week.proofs.Ordering.{insert-length}

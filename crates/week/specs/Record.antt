@@ -4,7 +4,7 @@ use Rattle.arrays.specs.Position.{at_position}
 use Rattle.jobs.specs.Model.{max_jobs, max_span, max_versions}
 use Rattle.week.specs.declared.record.Recipe.{Recipe}
 use Rattle.week.specs.declared.record.Batch.{Batch}
-use Rattle.week.specs.declared.record.Week.{Week}
+use Rattle.week.specs.declared.record.Listing.{Listing}
 
 -- "The week lasts at most 2,400 minutes. A list has at most 16 batches, each with at most 10 recipes."
 abbrev pub max_minutes : ℕ
@@ -16,15 +16,22 @@ max_batches = max_jobs
 abbrev pub max_recipes : ℕ
 max_recipes = max_versions
 
+-- a list of a week, by value
+abbrev pub Week : Type 0
+Week = Listing max_batches
+
 abbrev pub no_recipe : Recipe
 no_recipe = record { cost = 0; worth = 0 }
 
 abbrev pub empty_batch : Batch
 empty_batch = record { number = 0; arrival = 0; due = 0; count = 0; recipes = replicate max_recipes no_recipe }
 
--- an empty list of a week
+-- an empty list of a week, with places for n batches
+abbrev pub empty_listing : (n : ℕ) → ℕ → ℕ → Listing n
+empty_listing n t c = record { opening = t; closing = c; count = 0; batches = replicate n empty_batch }
+
 abbrev pub empty_week : ℕ → ℕ → Week
-empty_week t c = record { opening = t; closing = c; count = 0; batches = replicate max_batches empty_batch }
+empty_week = empty_listing max_batches
 
 -- what stands past the end of the array
 abbrev pub no_batch : Batch

@@ -35,6 +35,7 @@ pub enum Reason {
 }
 
 impl Reason {
+    // The number of the case, which a cast alone gives.
     pub fn number(self) -> u8
         ensures { result ≡ number_of self }
     {
@@ -42,7 +43,8 @@ impl Reason {
     }
 }
 
-// The error of whatever can be refused: the reason with the place and the recipe that it names, 0 where it names none.
+// The error of whatever can be refused: the reason with the place and the recipe that it names, 0 where it names none. Document 01's own
+// numbers, from 1, and no `Option`: each is answered and printed as it stands.
 #[derive(Clone, Copy, Debug, PartialEq, Eq)]
 pub struct Fault {
     pub reason: Reason,
@@ -51,7 +53,7 @@ pub struct Fault {
 }
 
 impl Fault {
-    // A reason that names no place.
+    // A reason that names no place. No `From`: where one refuses, the line says that it makes a fault.
     pub fn of(reason: Reason) -> Fault
         ensures { result ≡ fault_at reason 0 0 }
     {

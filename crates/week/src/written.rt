@@ -40,16 +40,14 @@ pub fn with_batch(week: Week, batch: Batch) -> Week
 pub fn leave_out(week: Week, number: u16) -> Week
     ensures { result ≡ written week.opening week.closing (without number (batches_of week)) }
 {
+    let stays = |batch: &&Batch| batch.number != number;
     let mut batches = [Batch::empty(); Week::MAX_BATCHES];
-    let mut count = 0;
-    for batch in week.listed() {
-        if batch.number != number {
-            batches[count] = *batch;
-            count += 1;
-        }
+    // Stored by number: after a `zip` with what is written a proof knows none of its entries, and no memory is had to collect into.
+    for (place, batch) in week.listed().iter().filter(stays).enumerate() {
+        batches[place] = *batch;
     }
     Week {
-        count,
+        count: week.listed().iter().filter(stays).count(),
         batches,
         ..week
     }

@@ -6,34 +6,29 @@ mod desk;
 mod help;
 mod memory;
 
-use crate::commands::obey;
 use crate::desk::Desk;
 use std::io::Read;
 use std::{io, mem};
-use words::line::{Line, extended};
+use words::line::extended;
 
 // How much is read at once.
 const PIECE: usize = 4096;
 
 // Every line that ends in a piece of the input.
-fn take(rt: &impl Print, desk: &mut Desk, piece: &[u8]) -> io::Result<()> {
-    let mut from = 0;
-    // A line a turn: `extended` tells where the next one starts.
-    while from < piece.len() {
-        let line = mem::replace(&mut desk.line, Line::empty());
-        let more = extended(line, piece, from);
+fn take<P: Print>(desk: &mut Desk<'_, P>, piece: &[u8]) -> io::Result<()> {
+    for part in piece.split_inclusive(|b| *b == b'\n') {
+        let line = mem::take(&mut desk.line);
+        let more = extended(line, part, 0);
         desk.line = more.line;
-        let Some(next) = more.next else {
-            return Ok(());
-        };
-        obey(rt, desk)?;
-        from = next;
+        if more.next.is_some() {
+            desk.obey()?;
+        }
     }
     Ok(())
 }
 
 fn main(rt: HostRuntime) {
-    let mut desk = Desk::at_start();
+    let mut desk = Desk::at_start(&rt);
     let mut input = rt.reader();
     // More reads than any machine lives to make. It is proved that the program ends, and nothing says that its input does.
     for _ in 0..u64::MAX {
@@ -43,9 +38,9 @@ fn main(rt: HostRuntime) {
             return;
         };
         let answered = if n == 0 {
-            obey(&rt, &mut desk)
+            desk.obey()
         } else {
-            take(&rt, &mut desk, &piece[..n])
+            take(&mut desk, &piece[..n])
         };
         if answered.is_err() {
             let _ = rt.eprint("weekdesk: the answer could not be written\n");

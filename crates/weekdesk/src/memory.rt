@@ -1,9 +1,10 @@
 // Memory that is lent to an operation.
+use command::command::Lent;
 use lent::fill::fill;
 
-// The first `size` bytes of what there is are lent; no more of a larger size. A size beside an array, since what is lent anew is not
-// appended to: each byte that was there is written over.
-#[derive(Clone, Copy)]
+// The first `size` bytes of what there is are lent; no more of a larger size. A size beside an array: an `ArrayVec` would be
+// emptied and filled again byte by byte, where the bytes are written over at once.
+#[derive(Clone, Copy, Debug, PartialEq, Eq)]
 pub(crate) struct Memory<const N: usize> {
     bytes: [u8; N],
     size: usize,
@@ -18,9 +19,9 @@ impl<const N: usize> Memory<N> {
     }
 
     // `table SIZE V`, `log SIZE V`: ‘lend a picks table, a log, of SIZE bytes, each V’
-    pub fn lend(&mut self, size: usize, value: u8) {
-        self.size = size;
-        fill(self.lent_mut(), value);
+    pub fn lend(&mut self, lent: Lent) {
+        self.size = lent.size;
+        fill(self.lent_mut(), lent.value);
     }
 
     pub fn lent(&self) -> &[u8] {

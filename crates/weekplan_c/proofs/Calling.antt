@@ -9,9 +9,8 @@ use mathlib.Core.List.{List, [], ◌∷◌, ◌++◌}
 use lib.ListN.{length, drop}
 use lib.IntN.{ℤ, pos}
 use Rattle.arrays.specs.Bits.{max16}
-use Rattle.week.specs.declared.record.Week.{Week}
 use Rattle.week.specs.declared.refusal.Refusal.{Refusal}
-use Rattle.week.specs.Record.{max_batches}
+use Rattle.week.specs.Record.{Week, max_batches}
 use Rattle.week.specs.Refusal.{first_of}
 use Rattle.week.proofs.First.{Proper, number_of_lem, refuses_too, append_first, append_last, append_rest}
 use Rattle.week.proofs.Passes.{short_proper, first_of_passes, short_passes, append_passes}

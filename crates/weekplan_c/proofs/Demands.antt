@@ -13,8 +13,7 @@ use lib.IntN.{ℤ, pos, nat_abs}
 use lib.Seq.{take_at}
 use Rattle.arrays.specs.Sum.{sum_to}
 use Rattle.arrays.proofs.Front.{length_kept, later_kept}
-use Rattle.week.specs.declared.record.Week.{Week}
-use Rattle.week.specs.Record.{max_batches}
+use Rattle.week.specs.Record.{Week, max_batches}
 use Rattle.week.specs.RefusalOrder.{one_of, AtFault}
 use Rattle.week.proofs.First.{number_of_lem}
 use Rattle.week.proofs.Naming.{at_fault}

@@ -7,7 +7,7 @@ use mathlib.Core.Bool.{false≢true}
 use mathlib.Core.List.{List, [], ◌∷◌}
 use lib.ListN.{length}
 use Rattle.arrays.proofs.Tests.{lt_holds}
-use Rattle.week.specs.declared.record.Week.{Week}
+use Rattle.week.specs.Record.{Week}
 use Rattle.week.specs.declared.refusal.Refusal.{Refusal}
 use Rattle.week.specs.Refusal.{first_of, short_fault}
 use Rattle.week.specs.RefusalOrder.{stage, FirstToHold, least_place, greatest_place, Naming}

@@ -77,6 +77,7 @@ pub extern "C" fn weekplan_choose(sheet: &[u8], picks: &mut [u8], recipes: &mut 
         × SomePlan (sheet_week sheet.now)) }
 {
     match plan_into(sheet, picks, recipes) {
+        // Sixteen worths of 16 bits sum to less than 2 ^ 31: `try_from` would test what is proved.
         Ok(total) => total as i32,
         Err(fault) => minus(fault.reason.number()),
     }

@@ -1,21 +1,22 @@
 -- A line that a piece extends: the first line feed decides.
 use Prim.Native.Nat.{ℕ, suc, ◌+◌, ◌-◌, ◌≤◌, ◌<◌, min}
-use native.Mathlib.Decide.{ℕ_discrete, dec_lt}
+use native.Mathlib.Decide.{ℕ_discrete}
 use native.Mathlib.Numerals.{one-add}
 use native.Mathlib.Omega.{arith}
 use mathlib.Core.Path.{◌≡◌, refl, sym, ap, ◌∙◌}
 use mathlib.Core.Bool.{true, false}
 use mathlib.Core.List.{List, [], ◌∷◌}
-use lib.ListN.{length, take, drop, length-take, drop_of_length-le}
+use lib.ListN.{length, take, drop, length-take}
 use lib.Seq.{take_all}
 use lib.Dec.{eqb}
 use borrow.Author.Tests.{eq-eqb, ne_eqb}
 use Rattle.std.specs.Prelude.{None, Some, position}
 use Rattle.std.specs.List.{position_or_len}
+use Rattle.std.proofs.lemmas.List.{take_rest, drop_min}
 use Rattle.arrays.specs.Text.{line_feed}
 use Rattle.words.specs.declared.line.Line.{Line}
 use Rattle.words.specs.Line.{with_bytes, before_feed, has_feed, extended_by}
-use Rattle.words.proofs.Places.{left, some_at, none_at}
+use Rattle.words.proofs.Places.{some_at, none_at}
 
 -- how many bytes stand before the first line feed
 abbrev size : List ℕ → ℕ
@@ -55,15 +56,7 @@ has_none (b ∷ bs) none =
 -- what is left of a piece, as the code cuts it
 pub rest_of : (piece : List ℕ) (from : ℕ) →
     let at = min from (length piece) in take (length piece - at) (drop at piece) ≡ drop from piece
-rest_of piece from =
-    left piece (min from (length piece))
-    ∙ elim (dec_lt from (length piece)) [
-      | yes less ↦ ap (λ (k : ℕ). drop k piece) (omega arith)
-      | no over ↦
-          let past : length piece ≤ from = omega arith in
-          let end : length piece ≤ min from (length piece) = omega arith in
-          rw (drop_of_length-le piece past, drop_of_length-le piece end)
-    ]
+rest_of piece from = take_rest piece (min from (length piece)) ∙ drop_min from piece
 
 module _ (line : Line) (piece : List ℕ) (from : ℕ) where
   pub extended_first : (len : ℕ) → Some len ≡ position (λ b. eqb b line_feed) (drop from piece) →

@@ -6,4 +6,3 @@ pub mod NextWords
 pub mod Spelling
 pub mod Decimals
 pub mod Numbering
-pub mod Further

@@ -1,24 +1,21 @@
 -- Where the next word of a line starts and ends.
-use Prim.Native.Nat.{ℕ, ◌+◌, ◌-◌, ◌≤◌, ◌<◌}
+use Prim.Native.Nat.{ℕ, ◌<◌}
 use native.Mathlib.Decide.{ℕ_discrete}
 use native.Mathlib.Numerals.{one-add}
 use native.Mathlib.Omega.{arith}
 use mathlib.Core.Path.{◌≡◌, refl, sym, ap, ◌∙◌}
 use mathlib.Core.Bool.{not}
-use mathlib.Core.List.{List, [], ◌∷◌}
-use lib.ListN.{length, take, drop, length-drop, take-append-drop, drop_of_length-le}
-use lib.Seq.{drop-drop}
+use mathlib.Core.List.{List, [], ◌∷◌, ◌++◌}
+use lib.ListN.{length, take, drop, replicate, take-append-drop, drop_of_length-le}
 use lib.Dec.{eqb}
 use borrow.Author.Tests.{eq-eqb, ne_eqb}
-use Rattle.std.specs.Prelude.{None, Some, position}
+use Rattle.std.specs.Prelude.{Option, None, Some, position}
+use Rattle.std.specs.Option.{unwrap_or}
 use Rattle.std.proofs.lemmas.List.Folds.{length-prefix_len}
-use Rattle.std.proofs.lemmas.List.Sums.{prefix_len-le-length}
 use Rattle.std.specs.List.{position_or_len}
 use Rattle.arrays.specs.Text.{space}
-use Rattle.words.specs.declared.word.Word.{Word}
-use Rattle.words.specs.Word.{words_of, parts_of, some_bytes, Unbroken, IsWord}
-use Rattle.words.specs.Contract.{IsNext}
-use Rattle.words.proofs.Places.{left, some_at, none_at}
+use Rattle.words.specs.Word.{words_of, parts_of, some_bytes, Unbroken, IsWord, StandsFirst}
+use Rattle.words.proofs.Places.{position_else, some_at, none_at}
 use Rattle.words.proofs.Words.{words_space, Cut, cut_end, cut_space, word_first}
 
 -- how many spaces stand first, and how many bytes stand before the first space
@@ -28,13 +25,17 @@ spaces line = position_or_len (λ b. not (eqb b space)) line
 abbrev size : List ℕ → ℕ
 size line = position_or_len (λ b. eqb b space) line
 
--- a line that is over has no words
-pub words_over : (line : List ℕ) (at : ℕ) → length line ≤ at → words_of (drop at line) ≡ []
-unfolding words_of parts_of some_bytes
-words_over line at over = rw (drop_of_length-le line over)
+-- spaces stand before the first byte that is none
+spaces_before : (line : List ℕ) → line ≡ replicate (spaces line) space ++ drop (spaces line) line
+spaces_before [] = refl
+spaces_before (b ∷ bs) =
+    elim (ℕ_discrete b space) [
+      | yes e ↦ rw (eq-eqb b space e, one-add) (ap (λ (c : ℕ). c ∷ bs) e ∙ ap (λ (l : List ℕ). space ∷ l) (spaces_before bs))
+      | no n ↦ rw (ne_eqb b space n) refl
+    ]
 
--- spaces are passed over, up to a byte that is none
-pub spaces_over : (line : List ℕ) → words_of line ≡ words_of (drop (spaces line) line)
+-- they are passed over, up to such a byte
+spaces_over : (line : List ℕ) → words_of line ≡ words_of (drop (spaces line) line)
 spaces_over [] = refl
 spaces_over (b ∷ bs) =
     elim (ℕ_discrete b space) [
@@ -75,69 +76,35 @@ cut (b ∷ bs) =
 
 -- so the word that stands there is the first one
 module _ (line : List ℕ) (start : ℕ) (is : Some start ≡ position (λ b. not (eqb b space)) line) where
-  first_size : length (take (size (drop start line)) (drop start line)) ≡ size (drop start line)
-  first_size = length-prefix_len (λ b. not (eqb b space)) (drop start line)
-
   first_is : IsWord (take (size (drop start line)) (drop start line))
   first_is =
       let at = some_at (λ b. not (eqb b space)) line start is in
       let more : spaces line < length line = omega (arith, at.0, at.1) in
       let some : 0 < size (drop start line) = rw at.0 (begins line more) in
-      record { some = omega (arith, first_size); whole = whole (drop start line) }
+      let long = length-prefix_len (λ b. not (eqb b space)) (drop start line) in
+      record { some = omega (arith, long); whole = whole (drop start line) }
 
-  first_words :
-      words_of line ≡ take (size (drop start line)) (drop start line) ∷ words_of (drop (start + size (drop start line)) line)
+  first_words : let rest = drop start line in words_of line ≡ take (size rest) rest ∷ words_of (drop (size rest) rest)
   first_words =
-      let word = drop start line in
-      let n = size word in
+      let rest = drop start line in
       spaces_over line
       ∙ ap (λ (k : ℕ). words_of (drop k line)) (sym (some_at (λ b. not (eqb b space)) line start is).0)
-      ∙ ap words_of (sym (take-append-drop n word))
-      ∙ word_first (take n word) (drop n word) first_is (cut word)
-      ∙ ap (λ (l : List ℕ). take n word ∷ words_of l) (drop-drop n start line)
+      ∙ ap words_of (sym (take-append-drop (size rest) rest))
+      ∙ word_first (take (size rest) rest) (drop (size rest) rest) first_is (cut rest)
 
-  -- the first one from an index on, of the line of which that is the rest
-  module _ (all : List ℕ) (at : ℕ) (within : at ≤ length all) (rest : line ≡ drop at all) where
-    pub next_first : (word : Word) → word.bytes.now ≡ take (size (drop start line)) (drop start line) →
-        word.end ≡ at + start + size (drop start line) → IsNext all at word
-    next_first word bytes end =
-        let n = size (drop start line) in
-        let long : length word.bytes.now ≡ n = ap length bytes ∙ first_size in
-        let begin : word.end - length word.bytes.now ≡ at + start = omega arith in
-        let back : word.end - (at + start) ≡ n = omega arith in
-        let after : drop (start + n) line ≡ drop word.end all =
-        ap (drop (start + n)) rest ∙ drop-drop (start + n) at all ∙ ap (λ (k : ℕ). drop k all) (omega arith) in
-        record {
-          is = rw bytes first_is;
-          forward = omega arith;
-          within =
-              omega (
-                arith,
-                (some_at (λ b. not (eqb b space)) line start is).1,
-                prefix_len-le-length (λ b. not (eqb b space)) (drop start line),
-                length-drop start line,
-                ap length rest,
-                length-drop at all,
-              );
-          taken = rw (begin, back) (bytes ∙ ap (λ (l : List ℕ). take n (drop start l)) rest ∙ ap (take n) (drop-drop start at all));
-          first = rw (← rest) (first_words ∙ rw (after, ← bytes));
-        }
+  first_stands : let rest = drop start line in StandsFirst line (take (size rest) rest) (drop (size rest) rest)
+  first_stands =
+      let rest = drop start line in
+      record {
+        is = first_is;
+        spaces = start;
+        parts = rw (take-append-drop (size rest) rest, (some_at (λ b. not (eqb b space)) line start is).0) (spaces_before line);
+      }
 
-    -- as the code cuts it
-    pub next_cut : (n : ℕ) (word : Word) → n ≡ size (take (length line - start) (drop start line)) →
-        word.bytes.now ≡ take n (take (length line - start) (drop start line)) → word.end ≡ at + start + n → IsNext all at word
-    next_cut n word len bytes end =
-        let count : n ≡ size (drop start line) = len ∙ ap size (left line start) in
-        next_first word (bytes ∙ rw (left line start, count)) (end ∙ rw count)
-
-    pub next_within : (n : ℕ) → n ≡ size (take (length line - start) (drop start line)) → at + start + n ≤ length all
-    next_within n len =
-        omega (
-          arith,
-          len ∙ ap size (left line start),
-          (some_at (λ b. not (eqb b space)) line start is).1,
-          prefix_len-le-length (λ b. not (eqb b space)) (drop start line),
-          length-drop start line,
-          ap length rest,
-          length-drop at all,
-        )
+  -- as the code cuts it
+  pub first_cut : {rest : List ℕ} {end : Option ℕ} → rest ≡ drop start line → end ≡ position (λ b. eqb b space) rest →
+      let n = unwrap_or end (length rest) in
+      (words_of line ≡ take n rest ∷ words_of (drop n rest)) × StandsFirst line (take n rest) (drop n rest)
+  first_cut {rest} {end} cut ends =
+      let size : unwrap_or end (length rest) ≡ size rest = rw ends (position_else (λ b. eqb b space) rest) in
+      rw size (rw cut (first_words, first_stands))

@@ -1,10 +1,10 @@
 -- Whether a word is a number, and which, is decided digit by digit: the bytes from an index on decide.
 use Prim.Native.Nat.{ℕ, ◌+◌, ◌-◌, ◌*◌, ◌^◌, ◌≤◌, ◌<◌}
-use native.Mathlib.Nat.{pow-suc, pow-le-pow_right}
+use native.Mathlib.Nat.{pow-suc}
 use native.Mathlib.Numerals.{add-one}
 use native.Mathlib.Omega.{arith}
 use mathlib.Core.Logic.{◌⊎◌, inl, inr}
-use mathlib.Core.Path.{◌≡◌, refl, sym, ◌∙◌}
+use mathlib.Core.Path.{◌≡◌, sym, ◌∙◌}
 use mathlib.Core.Bool.{true, false}
 use mathlib.Core.List.{List, ◌∷◌}
 use lib.ListN.{length, get_or, drop, drop_of_length-le}
@@ -55,14 +55,7 @@ pub record Spelling (word : List ℕ) (i value : ℕ) : Type 0 where
   pub digits : are_digits (drop i word) ≡ are_digits word
   pub spelt : value_after value (drop i word) ≡ value_after 0 word
 
-pub spelling_start : (word : List ℕ) → Spelling word 0 0
-spelling_start word = record { within = omega arith; below = omega arith; digits = refl; spelt = refl }
-
 module _ {word : List ℕ} {i value : ℕ} (h : Spelling word i value) where
-  -- five digits at most: the value has room
-  pub spelling_room : i < max_digits → value < 10000
-  spelling_room few = omega (arith, h.below, pow-le-pow_right {n = 10} (omega arith) {i = i} {j = 4} (omega arith))
-
   module _ (more : i < length word) where
     rest : drop i word ≡ get_or word i 0 ∷ drop (i + 1) word
     rest = rw add-one (drop-cons word i 0 more)

@@ -2,5 +2,4 @@ pub mod Line
 pub mod Word
 pub mod Number
 pub mod Numbers
-pub mod Contract
 pub mod Examples

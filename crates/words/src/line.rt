@@ -5,8 +5,6 @@ ghost use Rattle.words.specs.Line.{no_line, with_bytes, extended_by};
 use crate::place::first_place;
 use arrayvec::ArrayVec;
 
-pub const LINE_FEED: u8 = b'\n';
-
 // The longest line that is read, its line feed not counted.
 pub const MAX_LINE: usize = 4096;
 
@@ -14,9 +12,18 @@ pub const MAX_LINE: usize = 4096;
 const HELD: usize = MAX_LINE + 1;
 
 // The first bytes of a line, as far as they have come.
-#[derive(Drop)]
+#[derive(Drop, Clone, Debug, PartialEq, Eq)]
 pub struct Line {
     pub bytes: ArrayVec<u8, HELD>,
+}
+
+// By `empty`, of which a clause says what it holds.
+impl Default for Line {
+    ghost is_default = { λ line. line ≡ no_line };
+
+    fn default() -> Line {
+        Line::empty()
+    }
 }
 
 impl Line {
@@ -29,28 +36,31 @@ impl Line {
     }
 
     // With as many more bytes as there is room for.
+    #[tactic(auto, using(std::proofs::lemmas::List::take_min), unfolding(crate::specs::Line::with_bytes))]
     fn with_bytes(mut self, bytes: &[u8]) -> Line
         ensures { result ≡ with_bytes self bytes.now }
     {
-        let fits = bytes.len().min(self.bytes.remaining_capacity());
-        let _ = self.bytes.try_extend_from_slice(&bytes[..fits]);
+        let fits = self.bytes.remaining_capacity().min(bytes.len());
+        self.bytes.try_extend_from_slice(&bytes[..fits]).unwrap();
         self
     }
 }
 
 // A line after more of it has come, and where the next one starts if this one has ended.
-#[derive(Drop)]
+#[derive(Drop, Clone, Debug, PartialEq, Eq)]
 pub struct Extension {
     pub line: Line,
     pub next: Option<usize>,
 }
 
-// A line with the bytes of a piece from `from` on, up to the line feed that ends it or the end of the piece.
+// A line with the bytes of a piece from `from` on, up to the line feed that ends it or the end of the piece. A place in the piece, and not
+// the rest of it: `extended_by`, of which the laws of lines in pieces speak (docs/PROMISES.md), starts at a place and tells one.
+#[tactic(auto, using(crate::proofs::Feeds::rest_of, crate::proofs::Feeds::extended_first, crate::proofs::Feeds::extended_all))]
 pub fn extended(line: Line, piece: &[u8], from: usize) -> Extension
     ensures { result ≡ extended_by line piece.now from }
 {
     let rest = &piece[from.min(piece.len())..];
-    match first_place(LINE_FEED, rest) {
+    match first_place(b'\n', rest) {
         Some(len) => Extension {
             line: line.with_bytes(&rest[..len]),
             next: Some(from + len + 1),

@@ -2,7 +2,7 @@
 ghost use Rattle.std.specs.Prelude.{◌≡◌};
 ghost use Rattle.words.specs.Number.{number_of};
 
-// The most digits of a number.
+// The most digits of a number. No value of so many is past a `u32`.
 const MAX_DIGITS: usize = 5;
 
 // ‘A number is one to five decimal digits, at most 65,535.’

@@ -1,10 +1,10 @@
 // The numbers that stand on a line.
-ghost use Rattle.std.specs.Prelude.{◌≡◌, drop};
+ghost use Rattle.std.specs.Prelude.{◌≡◌};
 ghost use Rattle.words.specs.Word.{words_of};
 ghost use Rattle.words.specs.Numbers.{numbers_of};
 
 use crate::number::number_of;
-use crate::word::next_word;
+use crate::word::Words;
 
 // How many numbers of a line are kept; all are counted.
 pub const MAX_KEPT: usize = 255;
@@ -16,21 +16,19 @@ pub struct Numbers {
     pub values: [u16; MAX_KEPT],
 }
 
-// The numbers from an index on to the end of a line; none where one of the words is no number.
-pub fn numbers_from(line: &[u8], from: usize) -> Option<Numbers>
-    ensures { result ≡ numbers_of (words_of (drop from line.now)) }
+// The numbers that the words of a line are; none where one of them is no number.
+pub fn numbers_of(line: &[u8]) -> Option<Numbers>
+    ensures { result ≡ numbers_of (words_of line.now) }
 {
     let mut values = [0; MAX_KEPT];
     // Counted by hand: the words beyond those that are kept are read as well.
     let mut count = 0;
-    let mut at = from;
-    while let Some(word) = next_word(line, at) {
-        let value = number_of(word.bytes)?;
+    for word in Words::of(line) {
+        let value = number_of(word)?;
         if count < MAX_KEPT {
             values[count] = value;
         }
         count += 1;
-        at = word.end;
     }
     Some(Numbers { count, values })
 }

@@ -1,4 +1,4 @@
-// Where a byte first stands.
+// Where a byte first stands, in a line and in what is left of one.
 ghost use Rattle.std.specs.Prelude.{◌≡◌, ◌==◌, position};
 
 pub(crate) fn first_place(byte: u8, bytes: &[u8]) -> Option<usize>

@@ -4,7 +4,7 @@ use std::collections::BTreeSet;
 
 /// Words that come from no `use` line: the language's own, its prelude's, and those of contracts.
 const ALWAYS_THERE: &str =
-    "pub abbrev unfoldable axiom record data module where let in λ → × Type Unit ⊥ _";
+    "pub abbrev unfoldable axiom record data module where let in elim [ | ↦ ] λ → × Type Unit ⊥ _";
 
 const MARKS: [char; 7] = ['(', ')', '{', '}', ';', ',', '@'];
 
@@ -42,7 +42,8 @@ impl Words {
         self.bound.contains(name)
     }
 
-    /// Names are bound by what stands right after them: `(a b : A)`, `λ a b.`, `let a = ..`, and the label of a field, `{ a = .. }`.
+    /// Names are bound by what stands right after them: `(a b : A)`, `λ a b.`, `let a = ..`, and the label of a field, `{ a = .. }`; and
+    /// those of a case after its constructor, `Some a ↦ ..`.
     fn add(&mut self, tokens: impl IntoIterator<Item = String>) {
         let mut names = Vec::new();
         let mut before = String::new();
@@ -51,8 +52,11 @@ impl Words {
                 names.push(token);
                 continue;
             }
+            if token == "↦" {
+                self.used.extend(names.drain(..names.len().min(1)));
+            }
             let binds = match token.as_str() {
-                ":" | "." => true,
+                ":" | "." | "↦" => true,
                 "=" => names.len() == 1 && before != ":",
                 _ => false,
             };

@@ -7,7 +7,7 @@ use mathlib.Core.List.{List}
 use lib.ListN.{length}
 use lib.IntN.{ℤ, pos, nat_abs}
 use mir.Syntax.{w32}
-use mir.Facts.{to_z-of_z}
+use mir.Facts.{to_z_pos, to_z-of_z}
 use Rattle.arrays.specs.Bits.{max16}
 use Rattle.week.specs.Record.{max_batches}
 use Rattle.planner.specs.Choose.{SomePlan, NoPlan, LongTable}
@@ -16,7 +16,6 @@ use Rattle.sheet.specs.Read.{WellWritten}
 use Rattle.weekplan_c.specs.Call.{minus_of, call_answer, picks_after, recipes_after, Planned, BestCall, LongBuffer}
 use Rattle.weekplan_c.proofs.Calling.{call_answer_lem, answer_small, planned_passes}
 use Rattle.weekplan_c.proofs.Demands.{call_best, call_none, call_plans}
-use Rattle.weekplan_c.proofs.Signed.{as_positive}
 use Rattle.weekplan_c.proofs.weekplan_choose.Goals as goal
 
 -- what the call promises of its answer, and of the table and the buffer after it: the last three follow from the first three
@@ -65,7 +64,7 @@ returns-in-Ok c =
     let picks = c.args.picks.now in
     let recipes = c.args.recipes.now in
     promised sheet picks recipes
-    (as_positive _ (omega (arith, small sheet picks recipes c.in-Ok.ensures.answer)) ∙ c.in-Ok.ensures.answer)
+    (to_z_pos w32 (omega (arith, small sheet picks recipes c.in-Ok.ensures.answer)) ∙ c.in-Ok.ensures.answer)
     c.plan_into.ensures.picks c.plan_into.ensures.recipes
 
 pub returns-in-Err : goal.returns-in-Err

@@ -1,21 +1,22 @@
 -- `name_of` meets its contract: the check finds the other words alone, and gives up at the two longest.
 use borrow.Author.Rules.{rules}
-use mathlib.Core.Path.{◌≡◌}
-use Rattle.std.proofs.lemmas.Slice.Eq.{text_from_reads}
+use mathlib.Core.Path.{◌≡◌, ap, sym}
+use mathlib.Core.List.{List}
+use Prim.Native.Nat.{ℕ}
+use lib.ListN.{length}
+use Rattle.std.proofs.lemmas.Slice.Eq.{HasBytesAt, text_from_reads}
 use Rattle.arrays.specs.Text.{bytes}
 use Rattle.command.specs.Name.{name_of, name_among}
 use Rattle.command.proofs.name.name_of.Goals as goal
 
+-- a word that is read as a text has the text's name
+same_name : (text word : List ℕ) → length word ≡ length text → HasBytesAt word 0 text → name_of text ≡ name_of word
+same_name text word size read = ap name_of (sym (text_from_reads word text size read))
+
 pub returns-in-choose : goal.returns-in-choose
 unfolding name_of name_among
-returns-in-choose c =
-    let word = c.args.word.now in
-    let is : word ≡ bytes "choose" = text_from_reads word (bytes "choose") (search rules) (search rules) in
-    rw is
+returns-in-choose c = same_name (bytes "choose") c.args.word.now (search rules) (search rules)
 
 pub returns-in-withdraw : goal.returns-in-withdraw
 unfolding name_of name_among
-returns-in-withdraw c =
-    let word = c.args.word.now in
-    let is : word ≡ bytes "withdraw" = text_from_reads word (bytes "withdraw") (search rules) (search rules) in
-    rw is
+returns-in-withdraw c = same_name (bytes "withdraw") c.args.word.now (search rules) (search rules)

@@ -1,18 +1,14 @@
-use Rattle.std.proofs.Common.{arith, ◌<◌, ◌≡◌, [], ◌∷◌, ◌++◌, sym, length-append, append_assoc}
+use Rattle.std.proofs.Common.{arith, ◌<◌, [], ◌∷◌, ◌++◌, sym, append_assoc}
 use mathlib.Core.List.{append-nil, flatten}
 use lib.ListN.{length-take}
 use Rattle.week.specs.Record.{no_recipe}
 use Rattle.text.specs.Line.{spaced}
-use Rattle.draft.specs.List.{printed}
 use Rattle.draft.proofs.Printed.{printed_at, recipes_more}
 use Rattle.draft.proofs.list.put_recipes.Goals as goal
 
 pub loop-recipe-init : goal.loop-recipe-init
 unfolding flatten spaced
 loop-recipe-init c = record { put = sym (append-nil _); width = omega arith }
-
-pub put_recipe-requires : goal.put_recipe-requires
-put_recipe-requires c = omega (arith, length-take c.min.result (c.copy_from_slice.new.self ++ (no_recipe ∷ [])))
 
 pub loop-recipe-preserved : goal.loop-recipe-preserved
 loop-recipe-preserved c =
@@ -30,10 +26,3 @@ loop-recipe-preserved c =
           (simp append_assoc);
       width = omega (arith, c.put_recipe.ensures.width);
     }
-
-pub returns : goal.returns
-returns c =
-    let kept = c.copy_from_slice.new.self in
-    let all : c.loop-recipe.recipe-index ≡ printed c.args.batch =
-    omega (arith, length-take c.min.result (kept ++ (no_recipe ∷ [])), length-append kept (no_recipe ∷ [])) in
-    record { part = rw all at c.loop-recipe.invariant.put; width = omega arith }

@@ -7,7 +7,7 @@ use Rattle.edf.proofs.workload.workload_of.Goals as goal
 pub loop-i-preserved : goal.loop-i-preserved
 loop-i-preserved c =
     padding_step c.loop-i.invariant (omega arith)
-    (rw c.then_some.ensures (made_task c.args.list c.args.choice.now c.loop-i.i (omega arith) c.version-version.ensures))
+    (made_task c.args.list c.args.choice.now c.loop-i.i (omega arith) c.version-version.ensures)
 
 pub returns : goal.returns
 unfolding workload_of

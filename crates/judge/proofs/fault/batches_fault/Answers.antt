@@ -1,23 +1,25 @@
 use Prim.Native.Nat.{ℕ, ◌+◌, ◌-◌, ◌<◌, ◌≤◌}
 use native.Mathlib.Numerals.{add-one}
 use native.Mathlib.Omega.{arith}
-use mathlib.Core.Path.{◌≡◌, refl, sym, ap, ◌∙◌}
+use mathlib.Core.Path.{◌≡◌, refl, sym, ap}
 use mathlib.Core.Logic.{◌⊎◌, ⊎_elim, inl, inr}
-use lib.ListN.{length, take}
-use lib.Seq.{length-take-le}
+use mathlib.Core.List.{List}
+use lib.ListN.{length, get_or, take, length-take}
+use lib.Seq.{get_or-take, length-take-le}
 use borrow.Author.Rules.{rules}
 use borrow.Author.Tests.{lt-ltb, le-ltb, eq-eqb, ne_eqb}
 use Rattle.arrays.proofs.Tests.{or_true}
 use Rattle.week.specs.declared.record.Batch.{Batch}
 use Rattle.week.specs.declared.refusal.Refusal.{Refusal}
-use Rattle.week.specs.declared.record.Week.{Week}
-use Rattle.week.specs.Record.{max_batches, recipe_at, batch_at}
+use Rattle.week.specs.Record.{Week, max_batches, no_batch, recipe_at, batch_at}
 use Rattle.week.proofs.Owned.{batches_owned}
-use Rattle.week.specs.Refusal.{accepted, refused, refused_if, first_of}
+use Rattle.week.specs.Refusal.{accepted, refused, refused_if}
 use Rattle.week.specs.Fault.{numbers}
-use Rattle.judge.specs.BatchFault.{before_costs, cost_fault}
+use Rattle.week.specs.Written.{batches_of}
+use Rattle.judge.specs.BatchFault.{cost_fault}
 use Rattle.week.proofs.First.{number_of_lem, search_found, search_on, search_over}
 use Rattle.week.proofs.Faults.{fault_refuses}
+use Rattle.week.proofs.Writing.{batches_counted}
 use Rattle.week.proofs.Passes.{first_of_passes}
 use Rattle.judge.proofs.WellFormed.{count_passes}
 use Rattle.judge.proofs.Walk.{walk_start, walk_refused, walk_on, walk_over, faults_before, faults_costs, faults_later}
@@ -35,36 +37,25 @@ module _ (b : Batch) (k : ℕ) where
   unfolding cost_fault refused_if
   costs_fall falls some = simp (le-ltb _ _ falls, ne_eqb _ _ some)
 
-pub batches-init : goal.batches-init
-batches-init c = walk_start _
+-- the batch that the loop is at, and those that stand earlier: as many as the index says
+module _ (w : Week) {items : List Batch} (are : items ≡ batches_of w) {i : ℕ} (more : i < length items) where
+  counted : i < w.count
+  counted = omega (arith, more, ap length are, length-take w.count w.batches)
+
+  listed : get_or items i no_batch ≡ batch_at w i
+  listed = rw are (get_or-take w.count w.batches i no_batch counted)
+
+  earlier_size : length w.batches ≡ max_batches → w.count ≤ max_batches → length (take i w.batches) ≡ i
+  earlier_size owned most = length-take-le i w.batches (omega (arith, counted))
+
+pub loop-i-init : goal.loop-i-init
+loop-i-init c = walk_start _
 
 pub loop-k-init : goal.loop-k-init
 loop-k-init c =
     let early = number_of_lem (sym c.in_default.ensures) in
-    let counted = (count_passes (batch_at c.args.week c.batches.i)).0 ((first_of_passes _).0 early).0 in
-    (search rules, counted.0, counted.1, refl)
-
-pub returns-then-week-i : goal.returns-then-week-i
-returns-then-week-i c = walk_over c.batches.invariant c.if-week-i.true
-
-pub returns-in-Err : goal.returns-in-Err
-returns-in-Err c =
-    let refuses = fault_refuses c.in-Err.early in
-    walk_refused c.batches.invariant c.if-week-i.false
-    (faults_before c.args.week c.batches.i c.in-Err.ensures refuses) refuses (ap numbers c.in_place.ensures)
-
-pub returns-then-q-r : goal.returns-then-q-r
-returns-then-q-r c =
-    let early = number_of_lem (sym c.in_default.ensures) in
-    let fault : Refusal = refused 7 0 (c.loop-k.k + 1) in
-    let refuses : fault.number ≡ 0 → ⊥ = λ z. omega arith in
-    let found =
-    search_found _ _ _ c.loop-k.invariant.3 {r = fault} c.loop-k-test.true
-    (sym (costs_rise _ _ (⊎_elim inl (λ zero. inr zero.1) c.then-q-r.either)))
-    refuses
-    in
-    walk_refused c.batches.invariant c.if-week-i.false
-    (faults_costs c.args.week c.batches.i early found refuses) refuses refl
+    let recipes = (count_passes (get_or c.listed-b-items.result.now c.loop-i.i no_batch)).0 ((first_of_passes _).0 early).0 in
+    (search rules, recipes.0, recipes.1, refl)
 
 pub loop-k-preserved : goal.loop-k-preserved
 loop-k-preserved c = (
@@ -74,27 +65,58 @@ loop-k-preserved c = (
   search_on _ _ _ c.loop-k.invariant.3 (omega arith) (number_of_lem (costs_fall _ _ (omega arith) (λ none. omega arith))),
 )
 
--- those that stand earlier are as many as the index says
-earlier_size : (w : Week) (i : ℕ) → length w.batches ≡ max_batches → w.count ≤ max_batches → i < w.count → length (take i w.batches) ≡ i
-earlier_size w i owned most more = length-take-le i w.batches (omega arith)
+pub returns-in-Err : goal.returns-in-Err
+returns-in-Err c =
+    let w = c.args.week in
+    let are = c.listed-b-items.ensures in
+    let more = c.loop-i-test.true in
+    let refuses = fault_refuses c.in-Err.early in
+    walk_refused c.loop-i.invariant (counted w are more)
+    (faults_before w c.loop-i.i (rw (listed w are more) at c.in-Err.ensures) refuses) refuses (ap numbers c.in_place.ensures)
+
+pub returns-then-q-r : goal.returns-then-q-r
+returns-then-q-r c =
+    let w = c.args.week in
+    let are = c.listed-b-items.ensures in
+    let more = c.loop-i-test.true in
+    let early = number_of_lem (sym c.in_default.ensures) in
+    let fault : Refusal = refused 7 0 (c.loop-k.k + 1) in
+    let refuses : fault.number ≡ 0 → ⊥ = λ z. omega arith in
+    let found =
+    search_found _ _ _ c.loop-k.invariant.3 {r = fault} c.loop-k-test.true
+    (sym (costs_rise _ _ (⊎_elim inl (λ zero. inr zero.1) c.then-q-r.either)))
+    refuses
+    in
+    walk_refused c.loop-i.invariant (counted w are more)
+    (faults_costs w c.loop-i.i (rw (listed w are more) at early) (rw (listed w are more) at found) refuses) refuses refl
 
 pub returns-in-Err-after_costs : goal.returns-in-Err-after_costs
 returns-in-Err-after_costs c =
     let w = c.args.week in
-    let i = c.batches.i in
+    let are = c.listed-b-items.ensures in
+    let more = c.loop-i-test.true in
     let early = number_of_lem (sym c.in_default.ensures) in
     let costs = number_of_lem (sym (search_over _ _ _ c.loop-k.invariant.3 c.loop-k-test.false)) in
-    let size = earlier_size w i (batches_owned w _ c.well_formed.0) c.requires c.if-week-i.false in
+    let size = earlier_size w are more (batches_owned w _ c.well_formed.0) c.requires in
+    let is = listed w are more in
     let refuses = fault_refuses c.in-Err-after_costs.later in
-    walk_refused c.batches.invariant c.if-week-i.false (faults_later w i refl size early costs c.in-Err-after_costs.ensures)
+    walk_refused c.loop-i.invariant (counted w are more)
+    (faults_later w c.loop-i.i refl size (rw is at early) (rw is at costs) (rw is at c.in-Err-after_costs.ensures))
     refuses (ap numbers c.in_place-in-Err-after_costs.ensures)
 
-pub batches-preserved : goal.batches-preserved
-batches-preserved c =
+pub loop-i-preserved : goal.loop-i-preserved
+loop-i-preserved c =
     let w = c.args.week in
-    let i = c.batches.i in
+    let are = c.listed-b-items.ensures in
+    let more = c.loop-i-test.true in
     let early = number_of_lem (sym c.in_default.ensures) in
     let costs = number_of_lem (sym (search_over _ _ _ c.loop-k.invariant.3 c.loop-k-test.false)) in
-    let size = earlier_size w i (batches_owned w _ c.well_formed.0) c.requires c.if-week-i.false in
-    let later = faults_later w i refl size early costs c.in_default-after_costs.ensures in
-    walk_on c.batches.invariant c.if-week-i.false (number_of_lem (sym later))
+    let size = earlier_size w are more (batches_owned w _ c.well_formed.0) c.requires in
+    let is = listed w are more in
+    let later = faults_later w c.loop-i.i refl size (rw is at early) (rw is at costs) (rw is at c.in_default-after_costs.ensures) in
+    walk_on c.loop-i.invariant (counted w are more) (number_of_lem (sym later))
+
+pub returns-after-loop-i : goal.returns-after-loop-i
+returns-after-loop-i c =
+    walk_over c.loop-i.invariant
+    (omega (arith, ap length c.listed-b-items.ensures, batches_counted c.args.week (batches_owned c.args.week _ c.well_formed.0) c.requires))

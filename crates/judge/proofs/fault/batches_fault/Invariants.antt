@@ -12,8 +12,5 @@ abbrev pub invariant-loop-k : goal.invariant-loop-k
 invariant-loop-k l =
     (1 ≤ l.k) × (l.k ≤ l.b.count) × (l.b.count ≤ max_recipes) × (first (cost_fault l.b) l.k (l.b.count - l.k) ≡ costs_fault l.b)
 
-abbrev pub invariant-batches : goal.invariant-batches
-invariant-batches l = Walk l.week l.i
-
-abbrev pub decreases-batches : goal.decreases-batches
-decreases-batches l = l.week.count - l.i
+abbrev pub invariant-loop-i : goal.invariant-loop-i
+invariant-loop-i l = Walk l.fn.week l.i

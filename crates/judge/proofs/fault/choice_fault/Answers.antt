@@ -1,40 +1,25 @@
-use Prim.Native.Nat.{◌+◌}
-use native.Mathlib.Numerals.{add-one}
-use native.Mathlib.Omega.{arith}
-use mathlib.Core.Path.{◌≡◌, refl, sym, ap, ◌∙◌}
-use Rattle.arrays.proofs.Tests.{or_true}
-use borrow.Author.Rules.{rules}
-use borrow.Author.Tests.{eq-eqb, ne_eqb, lt-ltb, le-ltb}
-use Rattle.week.specs.Refusal.{refused_if, first_of, or_else}
-use Rattle.week.specs.declared.refusal.Fault.{Fault}
-use Rattle.week.specs.Fault.{numbers, place_in}
-use Rattle.week.proofs.Faults.{fault_refuses}
+-- `choice_fault` answers 13: of the first index whose batch has not got the recipe that is named.
+use native.Mathlib.Nat.{sub-zero}
+use Rattle.std.proofs.Common.{rules, suc, ◌≡◌, ◌||◌, not, length, get_or, refl, ap, ◌∙◌}
+use lib.Dec.{eqb, ltb}
+use lib.Seq.{get_or-take}
+use borrow.Author.Tests.{tests, eq-eqb}
+use Rattle.week.specs.Record.{no_batch}
+use Rattle.week.specs.Written.{batches_of}
+use Rattle.week.proofs.First.{first_found, search_after}
+use Rattle.week.proofs.Owned.{batches_owned}
+use Rattle.week.proofs.Writing.{batches_counted}
 use Rattle.judge.specs.Fault.{name_fault, choice_fault}
-use Rattle.week.proofs.First.{number_of_lem, search_after, search_found, search_on, search_over}
-use Rattle.judge.proofs.fault.choice_fault.Goals.{then-k-eq0-via-then-k-eq0, then-k-eq0-via-else-k-eq0+then-b-from}
 use Rattle.judge.proofs.fault.choice_fault.Goals as goal
 
-pub loop-i-init : goal.loop-i-init
-unfolding choice_fault
-loop-i-init c = search_after _ _ _ _ _ (rw (eq-eqb _ _ c.if-choice-week.false) refl)
-
 pub returns : goal.returns
-returns c = search_over _ _ _ c.loop-i.invariant (omega arith)
-
-pub returns-then-k-eq0 : goal.returns-then-k-eq0
-unfolding name_fault refused_if
-returns-then-k-eq0 c =
-    let named = ap numbers c.in_place.ensures ∙ ap (λ (f : Fault). numbers (place_in (c.loop-i.i + 1) f)) c.of-then-k-eq0.ensures in
-    search_found _ _ _ c.loop-i.invariant (omega arith)
-    (named ∙ sym (elim c.then-k-eq0.branch [
-      | then-k-eq0-via-then-k-eq0 w ↦ simp (add-one, eq-eqb _ _ w.if-k-eq0.true)
-      | then-k-eq0-via-else-k-eq0+then-b-from w ↦
-          simp (add-one, ← w.from.ensures, lt-ltb _ _ w.if-b-from.true, or_true)
-    ]))
-    (fault_refuses c.in_place.result)
-
-pub loop-i-preserved : goal.loop-i-preserved
-unfolding name_fault refused_if
-loop-i-preserved c =
-    search_on _ _ _ c.loop-i.invariant (omega arith)
-    (simp (ne_eqb _ _ c.if-k-eq0.false, ← c.from.ensures, le-ltb _ _ c.if-b-from.false))
+unfolding name_fault choice_fault
+returns c =
+    let w = c.args.week in
+    let choice = c.args.choice.now in
+    let bs = batches_of w in
+    let size : length bs ≡ w.count = batches_counted w (batches_owned w _ c.well_formed.0) c.requires in
+    first_found (name_fault w choice) w.count 13 suc (λ i. 0)
+    (λ i. eqb (get_or choice i 0) 0 || ltb (get_or bs i no_batch).count (get_or choice i 0)) refl
+    (λ i low. rw (get_or-take w.count w.batches i no_batch low)) c.position.result _ (search (rules, tests)) (search (rules, c.map_or.ensures))
+    ∙ rw sub-zero at (search_after (name_fault w choice) 13 0 0 w.count (ap not (eq-eqb _ _ c.if-choice-week.false)))

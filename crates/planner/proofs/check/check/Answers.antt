@@ -8,7 +8,7 @@ use mathlib.Core.List.{List}
 use Rattle.jobs.specs.declared.model.JobList.{JobList}
 use Rattle.jobs.specs.declared.rule.Stretch.{Stretch}
 use Rattle.jobs.specs.declared.rule.Failing.{Failing}
-use Rattle.week.specs.declared.record.Week.{Week}
+use Rattle.week.specs.Record.{Week}
 use Rattle.jobs.specs.Model.{jobs_of, chosen}
 use Rattle.jobs.specs.Choice.{total}
 use Rattle.jobs.specs.Contract.{Answerable, stretched}

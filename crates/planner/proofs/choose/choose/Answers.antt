@@ -13,7 +13,7 @@ use Rattle.jobs.specs.Best.{best}
 use Rattle.select.specs.Table.{filled}
 use Rattle.select.specs.Contract.{best_choice}
 use Rattle.select.proofs.BestChoices.{choice_none}
-use Rattle.week.specs.declared.record.Week.{Week}
+use Rattle.week.specs.Record.{Week}
 use Rattle.week.specs.declared.refusal.Reason.TheVariants as reason
 use Rattle.week.specs.declared.refusal.Refusal.{Refusal}
 use Rattle.week.specs.Fault.{fault_at}

@@ -12,9 +12,8 @@ use Rattle.jobs.specs.Rule.{meets}
 use Rattle.edf.specs.declared.workload.Workload.{Workload}
 use Rattle.edf.specs.Workload.{workload_of, work_log}
 use Rattle.edf.proofs.Workloads.{workload_log}
-use Rattle.week.specs.declared.record.Week.{Week}
 use Rattle.week.specs.declared.refusal.Refusal.{Refusal}
-use Rattle.week.specs.Record.{span_of}
+use Rattle.week.specs.Record.{Week, span_of}
 use Rattle.judge.specs.Fault.{WellChosen}
 use Rattle.week.proofs.First.{number_of_lem}
 use Rattle.week.proofs.Faults.{fault_refuses}

@@ -8,4 +8,4 @@ pub returns : goal.returns
 returns c =
     let a = c.args in
     patched_part (omega arith) (omega arith) (patching_end c.loop-m.invariant (omega arith))
-    (λ i low. shift_at a.first a.end a.cost a.w a.scores.now a.words.now (omega arith) i low)
+    (λ i low. shift_at a.first a.end a.minutes a.w a.scores.now a.words.now (omega arith) i low)

@@ -3,7 +3,7 @@ use Prim.Native.Nat.{◌≤◌, max}
 use mathlib.Core.Path.{ap, ◌∙◌}
 use lib.ListN.{length-take}
 use Rattle.select.proofs.Rows.{Ready, row_start, row_small, level_small}
-use Rattle.select.proofs.RowStep.{listed, version_asked, row_step}
+use Rattle.select.proofs.RowStep.{listed, version_listed, row_step}
 use Rattle.select.proofs.RowEnd.{row_end}
 use Rattle.select.proofs.row.fill_row.Goals as goal
 
@@ -23,16 +23,14 @@ loop-i-init c =
 
 pub offer-requires-clause-version : goal.offer-requires-clause-version
 offer-requires-clause-version c =
-    let is = listed c.args.j c.loop-i.i c.loop-i-test.true in
-    version_asked c.loop-i.invariant.0 c.loop-i.invariant.1 is.0 is.1 c.first_offer-first.ensures
+    version_listed c.loop-i.invariant.0 c.loop-i.invariant.1 c.loop-i-test.true c.first_offer-first.ensures
 
 pub offer-requires-clause-low : goal.offer-requires-clause-low
 offer-requires-clause-low c = (c.loop-i.invariant.0.low, row_small c.loop-i.invariant.0 c.loop-i.invariant.1)
 
 pub due_offer-requires-clause-version : goal.due_offer-requires-clause-version
 due_offer-requires-clause-version c =
-    let is = listed c.args.j c.loop-i.i c.loop-i-test.true in
-    version_asked c.loop-i.invariant.0 c.loop-i.invariant.1 is.0 is.1 c.first_offer-first.ensures
+    version_listed c.loop-i.invariant.0 c.loop-i.invariant.1 c.loop-i-test.true c.first_offer-first.ensures
 
 pub loop-i-preserved : goal.loop-i-preserved
 loop-i-preserved c =

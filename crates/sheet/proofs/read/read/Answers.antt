@@ -15,9 +15,6 @@ returns-in_err-lines_fault c =
     let answer : answer_of c.from_residual.result ≡ refused_reading (numbers fault) = search rules in
     answer ∙ sym (lines_refused _ (omega arith) c.in_err-lines_fault.ensures (fault_refuses fault))
 
-pub week_of-week-requires : goal.week_of-week-requires
-week_of-week-requires c = number_of_lem (sym c.in_ok-lines_fault.ensures)
-
 pub returns-in_err-accept_list : goal.returns-in_err-accept_list
 returns-in_err-accept_list c =
     let fault = c.in_err-accept_list.field-0.0 in

@@ -1,6 +1,6 @@
 use Rattle.arrays.specs.Text.{bytes}
+use Rattle.text.proofs.Spacing.{named_fields}
 use Rattle.answer.specs.Line.{outcome_fields}
-use Rattle.answer.proofs.Named.{named_fields}
 use Rattle.answer.proofs.fields.OutcomeFields.put_fields.Goals as goal
 
 pub returns-in-Unfinished-clause-fields : goal.returns-in-Unfinished-clause-fields
