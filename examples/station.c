@@ -1,7 +1,8 @@
 /*
  * station SHEET: chooses the recipes of the week that the file SHEET holds, and prints the total and
- * the recipe of the batch at each position, or the refusal in words. The exit status is 0 for a plan,
- * 1 for a refusal, 2 for a usage or file error, or an answer that cannot be written.
+ * the recipe of the batch at each position of the list put in order, or the refusal in words. The exit
+ * status is 0 for a plan, 1 for a refusal, 2 for a usage or file error, or an answer that cannot be
+ * written.
  */
 #include <stdio.h>
 
@@ -44,8 +45,6 @@ static const char *words(int number)
         return "a recipe of cost 0 has a worth above 0";
     case WEEKPLAN_BATCH_NUMBER:
         return "a batch has number 0, or a number that stands earlier in the list";
-    case WEEKPLAN_BATCH_ORDER:
-        return "a batch is not in order after the one before";
     case WEEKPLAN_SHORT_PICKS:
         return "the picks table is too short";
     case WEEKPLAN_NO_PLAN:

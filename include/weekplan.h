@@ -8,8 +8,8 @@
  * crates/weekplan_c/src/lib.rt, proved for every sheet and all sizes; what else is said here of plan,
  * total, table and sizes is proved in crates/weekplan_c/proofs/Demands.antt. What is said of pointers,
  * memory and threads is no part of a contract: it rests on the language, where a function that is
- * handed no allocator has no heap and no static can be written, and on its compiler. "01" is the
- * buyer's document.
+ * handed no allocator has no heap and no static can be written, and on its compiler. "01" and "02"
+ * are the buyer's documents.
  */
 #ifndef WEEKPLAN_H
 #define WEEKPLAN_H
@@ -40,7 +40,9 @@ extern "C" {
  * The refusals that the call can give, in 01's words: the week opens at t and closes at c, a batch
  * arrives at r and is due at d, and n is the number of batches, which is that of the sheet's lines
  * less 1. Where several hold, the first in this order is given: 18; then line by line 16, 17; then
- * 1, 2, 3; then batch by batch 4 to 10, each batch whole before the next; then 11; 19; 14.
+ * 1, 2, 3; then batch by batch 4 to 9, in the order of the sheet's lines, each batch whole before the
+ * next; then 11; 19; 14. The place that a refusal names is not answered. There is no 10: by 02 the
+ * batches may come in any order.
  */
 enum weekplan_refusal {
     /* c is not after t. */
@@ -61,8 +63,6 @@ enum weekplan_refusal {
     WEEKPLAN_WORTH_SET_ASIDE = 8,
     /* Number 0, or a number that stands earlier in the list. */
     WEEKPLAN_BATCH_NUMBER = 9,
-    /* A batch not in order after the one before. */
-    WEEKPLAN_BATCH_ORDER = 10,
     /* Picks table shorter than n x (c - t + 1). */
     WEEKPLAN_SHORT_PICKS = 11,
     /* No choice meets the rule. */
@@ -86,6 +86,12 @@ enum weekplan_refusal {
  * each; its length must agree with the count. Any other line is no frame. A NUL byte does not end a
  * sheet. The sheet is only read.
  *
+ * The batches may come in any order, and get the same plan in each. What is said below of positions,
+ * and of a last batch, is said of the list put in order: by due minute, then by ready minute, which is
+ * the greater of t and r, then by number. Position i is that of the i-th batch in this order. The call
+ * does not answer the order; a caller gets at it by sorting the sheet's batches by these three, or by
+ * reading the numbers that the program weekplan prints for the same sheet, which stand in it.
+ *
  * The answer is the total worth of the chosen plan, from 0 to 1,048,560, or minus the number of a
  * refusal. A total of 0 is a plan. The plan meets 01's backward rule, and its total is the sum of
  * its worths; every other choice of recipes that meets the rule has a smaller total, or the same
@@ -97,13 +103,14 @@ enum weekplan_refusal {
  * What the call leaves in the two buffers, on every input:
  *
  *   recipes   With a plan, byte i is the recipe, numbered from 1, of the batch at position i + 1 in
- *             the list, for i from 0 to n - 1; the bytes from n on are kept. With a refusal every
- *             byte is kept.
+ *             the list put in order, for i from 0 to n - 1; the bytes from n on are kept. With a
+ *             refusal every byte is kept.
  *
  *   picks     With a plan, and with refusal 14, byte (i - 1) x (c - t + 1) + (x - t), for i from 1
  *             to n and x from t to c, is the recipe that the best choice for batches 1 to i, with x
- *             as the closing minute, gives to batch i, or 0 if no choice exists; the bytes from
- *             n x (c - t + 1) on are kept. With every other refusal every byte is kept.
+ *             as the closing minute, gives to batch i, or 0 if no choice exists, the batches being
+ *             counted in the list put in order; the bytes from n x (c - t + 1) on are kept. With every
+ *             other refusal every byte is kept.
  *
  * What the two hold before the call does not matter. A length may be 0, and its pointer null then;
  * any other pointer is to at least as many bytes as its length says. Neither buffer may overlap the

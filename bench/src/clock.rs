@@ -1,4 +1,4 @@
-//! Times side by side: each round takes every call in turn, so that what slows the machine slows all of them. Each round
+//! Times side by side: each round takes every case in turn, so that what slows the machine slows all of them. Each round
 //! has the stack at another place: where its arrays lie in a page moves the time of a short call by a tenth and more.
 
 use crate::thread_time;
@@ -7,18 +7,21 @@ use std::hint::black_box;
 
 const ROUNDS: usize = 201;
 
+/// A call, and the sheet that it is handed.
+pub type Case<'a> = (Call, &'a [u8]);
+
 /// A sample repeats its call until this many entries of the table are written.
 const SAMPLE: usize = 160_000;
 
 /// The stack stands at one of so many places, a frame apart, which together reach over a page.
 const PLACES: usize = 64;
 
-/// For each round the time of each call, in seconds.
+/// For each round the time of each case, in seconds.
 #[derive(Clone)]
 pub struct Times(Vec<Vec<f64>>);
 
 impl Times {
-    /// The median over the rounds of one call's time against another's.
+    /// The median over the rounds of one case's time against another's.
     pub fn ratio(&self, one: usize, other: usize) -> f64 {
         let mut ratios: Vec<f64> = self
             .0
@@ -29,26 +32,26 @@ impl Times {
         ratios[ratios.len() / 2]
     }
 
-    /// The least time of a call.
-    pub fn least(&self, call: usize) -> f64 {
-        let times = self.0.iter().map(|round| round[call]);
+    /// The least time of a case.
+    pub fn least(&self, case: usize) -> f64 {
+        let times = self.0.iter().map(|round| round[case]);
         times.fold(f64::INFINITY, f64::min)
     }
 }
 
-/// None if the calls differ, or have no plan.
-pub fn measure(calls: &[Call], sheet: &[u8], entries: usize, batches: usize) -> Option<Times> {
+/// None if the cases differ, or have no plan.
+pub fn measure(cases: &[Case], entries: usize, batches: usize) -> Option<Times> {
     let mut lent = Lent {
         picks: vec![0; entries],
         recipes: vec![0; batches],
     };
-    if !agree(calls, sheet, &mut lent) {
+    if !agree(cases, &mut lent) {
         return None;
     }
     let repeats = SAMPLE.div_ceil(entries);
     let rounds = (0..ROUNDS).map(|number| {
         deeper(number % PLACES, &mut || {
-            round(calls, number, sheet, &mut lent, repeats)
+            round(cases, number, &mut lent, repeats)
         })
     });
     Some(Times(rounds.collect()))
@@ -60,8 +63,8 @@ struct Lent {
 }
 
 /// Whether all find the same plan and write the same table.
-fn agree(calls: &[Call], sheet: &[u8], lent: &mut Lent) -> bool {
-    let mut outcomes = calls.iter().map(|call| {
+fn agree(cases: &[Case], lent: &mut Lent) -> bool {
+    let mut outcomes = cases.iter().map(|(call, sheet)| {
         let answer = call(sheet, &mut lent.picks, &mut lent.recipes);
         (answer, lent.picks.clone(), lent.recipes.clone())
     });
@@ -70,11 +73,11 @@ fn agree(calls: &[Call], sheet: &[u8], lent: &mut Lent) -> bool {
 }
 
 /// One sample of each, another one first in each round.
-fn round(calls: &[Call], first: usize, sheet: &[u8], lent: &mut Lent, repeats: usize) -> Vec<f64> {
-    let mut times = vec![0.0; calls.len()];
-    for turn in first..first + calls.len() {
-        let which = turn % calls.len();
-        times[which] = sample(calls[which], sheet, lent, repeats);
+fn round(cases: &[Case], first: usize, lent: &mut Lent, repeats: usize) -> Vec<f64> {
+    let mut times = vec![0.0; cases.len()];
+    for turn in first..first + cases.len() {
+        let which = turn % cases.len();
+        times[which] = sample(cases[which], lent, repeats);
     }
     times
 }
@@ -91,7 +94,7 @@ fn deeper(frames: usize, round: &mut dyn FnMut() -> Vec<f64>) -> Vec<f64> {
 }
 
 /// The time of one call, over a number of them.
-fn sample(call: Call, sheet: &[u8], lent: &mut Lent, repeats: usize) -> f64 {
+fn sample((call, sheet): Case, lent: &mut Lent, repeats: usize) -> f64 {
     let start = thread_time::now();
     for _ in 0..repeats {
         black_box(call(black_box(sheet), &mut lent.picks, &mut lent.recipes));

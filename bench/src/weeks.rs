@@ -1,5 +1,6 @@
 //! The weeks that are planned: well-formed, with a plan, arrivals and due minutes spread over the week.
 
+use drawn::Chance;
 use reference::{Batch, Recipe, Week};
 
 #[derive(Debug)]
@@ -16,12 +17,20 @@ impl Size {
     }
 }
 
+/// In order.
 pub fn week(size: &Size) -> Week {
     Week {
         opening: 0,
         closing: size.minutes as u16,
         batches: (0..size.batches).map(|i| batch(size, i)).collect(),
     }
+}
+
+/// The same batches, as chance has them.
+pub fn shuffled(week: &Week) -> Week {
+    let mut week = week.clone();
+    Chance::new(2008).shuffle(&mut week.batches);
+    week
 }
 
 /// Arrivals go over the first half of the week and due minutes over the second. Every second batch may be set aside; the

@@ -10,8 +10,8 @@ use Rattle.text.specs.Decimal.{decimal}
 use Rattle.text.specs.Line.{line_of, refusal_line}
 use Rattle.answer.specs.Line.{total_line, ran_line, recipes_line, stretches_line, outcomes_line, ran_width, batches_width}
 
--- `choose`, and `plan`, which answers ‘as `choose`’: ‘`plan TOTAL`, then `recipes K K ..`’, for a list of n batches; ‘A refusal is
--- answered `refused N P R` and nothing else.’
+-- `choose`, and `records` and `plan`, which answer ‘as `choose`’: ‘`plan TOTAL`, then `recipes K K ..`’, for a list of n batches; ‘A
+-- refusal is answered `refused N P R` and nothing else.’
 unfoldable pub plan_text : ℕ → ChooseAnswer → List ℕ
 plan_text n plan =
     answer_by plan.refusal refusal_line (total_line (bytes "plan") plan.total ++ recipes_line (take n plan.choice))

@@ -1,19 +1,21 @@
--- Case W at weekdesk, a list of no batches, batches that are unfinished and set aside, refusals, what the book's calls answer, and
--- lines that are no command, computed from the definitions: one table, one claim.
+-- Case W at weekdesk, in order and not, a list of no batches, batches that are unfinished and set aside, refusals, what the book's calls
+-- answer, and lines that are no command, computed from the definitions: one table, one claim.
 use Rattle.std.specs.Prelude.{ℕ, ◌≡◌, refl, true, replicate}
 use Prim.Native.String.{String}
 use mathlib.Core.List.{List, [], ◌∷◌, flatten}
 use Rattle.arrays.specs.Each.{some_below}
 use Rattle.arrays.specs.Example.{Example, ◌is◌, same, agree}
+use Rattle.arrays.specs.Position.{forward}
 use Rattle.arrays.specs.Text.{bytes}
 use Rattle.jobs.specs.Rule.{stretch_of, fits, next_bound}
 use Rattle.jobs.specs.Best.{best}
 use Rattle.edf.specs.Run.{entries, minutes_left, first_pending, log_of, idle, changes_after, changes, up_to_last, outcome_of}
 use Rattle.edf.specs.Workload.{choice_log, workload_of, outcome_at}
 use Rattle.week.specs.Record.{Week, max_minutes, max_batches, empty_batch, empty_week}
-use Rattle.week.specs.Order.{before}
+use Rattle.week.specs.Order.{before, insert_in, among, ordered}
+use Rattle.week.specs.Written.{batches_of, written}
 use Rattle.week.specs.Refusal.{accepted, refused, refused_if, or_else, first_of, first, short_fault, unless_refused, answer_by, at_place}
-use Rattle.judge.specs.Fault.{week_fault, number_fault, order_fault, batch_fault, list_fault, name_fault, choice_fault}
+use Rattle.judge.specs.Fault.{week_fault, number_fault, batch_fault, list_fault, name_fault, choice_fault}
 use Rattle.judge.specs.BatchFault.{cost_fault, worth_fault}
 use Rattle.planner.specs.Check.{rule_fault, check_fault, passed, refused_check, check_answer}
 use Rattle.planner.specs.Choose.{max_picks, table_fault, choose_fault, refused_plan, plan_of, choose_answer}
@@ -39,6 +41,10 @@ infixl 20 ◌gives◌
 abbrev ◌gives◌ : List ℕ → String → Example
 text gives answer = text is bytes answer
 
+-- W with its last batch first
+turned_w : Week
+turned_w = written week_w.opening week_w.closing (forward (batches_of week_w))
+
 -- seventeen batches are written down: an operation is handed the first 16 of them, and the count
 week_many : Week
 week_many = record { opening = 0; closing = 10; count = 17; batches = replicate max_batches empty_batch }
@@ -50,6 +56,10 @@ table =
     ∷ (run week_w (2 ∷ 1 ∷ 1 ∷ []) gives "ran changes 4 idle 10\noutcomes finished 10 finished 50 finished 90\n")
     ∷ (check week_w (1 ∷ 1 ∷ 1 ∷ []) gives "refused 15 1 0\n")
     ∷ (check week_w (2 ∷ 1 ∷ 1 ∷ []) gives "passed 22\nstretches 10 20 20 50 50 100\n")
+    -- and with its last batch first: the answers follow the list in order
+    ∷ (choose turned_w gives "plan 22\nrecipes 2 1 1\n")
+    ∷ (check turned_w (2 ∷ 1 ∷ 1 ∷ []) gives "passed 22\nstretches 10 20 20 50 50 100\n")
+    ∷ (run turned_w (2 ∷ 1 ∷ 1 ∷ []) gives "ran changes 4 idle 10\noutcomes finished 10 finished 50 finished 90\n")
     -- no batches
     ∷ (choose (empty_week 0 10) gives "plan 0\nrecipes\n")
     ∷ (check (empty_week 0 10) [] gives "passed 0\nstretches\n")
@@ -78,10 +88,10 @@ table =
 
 examples : agree table ≡ true
 unfolding
-    table same agree flatten week_w week_g week_late week_many stretch_of fits next_bound best
+    table same agree flatten week_w week_g week_late week_many turned_w stretch_of fits next_bound best
     entries minutes_left first_pending log_of idle changes_after changes up_to_last outcome_of choice_log workload_of outcome_at
-    before refused_if or_else first_of first some_below at_place short_fault unless_refused answer_by
-    week_fault cost_fault worth_fault number_fault order_fault batch_fault list_fault name_fault choice_fault
+    before insert_in among ordered refused_if or_else first_of first some_below at_place short_fault unless_refused answer_by
+    week_fault cost_fault worth_fault number_fault batch_fault list_fault name_fault choice_fault
     rule_fault check_fault passed refused_check check_answer table_fault choose_fault refused_plan plan_of choose_answer
     log_fault run_fault week_log log_answer refused_run run_answer
     spelt decimal spaced refusal_line total_line ran_line outcome_fields

@@ -15,7 +15,7 @@ use planner::run::run;
 use week::record::Week;
 use week::refusal::Fault;
 
-// `choose`, `plan`: ‘`plan TOTAL`, then `recipes K K ..`’ of a plan for a list of n batches; or the refusal.
+// `choose`, `records`, `plan`: ‘`plan TOTAL`, then `recipes K K ..`’ of a plan for a list of n batches; or the refusal.
 #[tactic(auto, using(crate::proofs::Answering::said), unfolding(crate::specs::Answer::plan_text, planner::specs::Choose::refused_plan))]
 pub fn plan_text(plan: Result<Plan, Fault>, n: usize) -> AnswerText
     ensures { result ≡ plan_text n (chosen_answer plan) }

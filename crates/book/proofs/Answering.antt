@@ -1,16 +1,18 @@
 -- The book's answers: what each is where something refuses, and where nothing does.
 use Prim.Native.Nat.{ℕ}
-use mathlib.Core.Path.{◌≡◌, sym}
+use mathlib.Core.Path.{◌≡◌, refl, sym}
+use mathlib.Core.List.{[], ◌∷◌, ◌++◌}
 use Rattle.std.proofs.Common.{Result, Ok, Err, IfOk}
 use Rattle.week.specs.declared.record.Batch.{Batch}
 use Rattle.week.specs.declared.refusal.Fault.{Fault}
 use Rattle.week.specs.declared.refusal.Refusal.{Refusal}
 use Rattle.week.specs.Refusal.{accepted}
 use Rattle.week.specs.Fault.{numbers, refusal_of}
-use Rattle.week.specs.Order.{insert_in}
+use Rattle.week.specs.Order.{ordered}
 use Rattle.week.specs.Numbers.{without}
 use Rattle.week.specs.Record.{Week, empty_week}
-use Rattle.week.specs.Written.{written}
+use Rattle.week.specs.Written.{batches_of, written}
+use Rattle.week.specs.Ordered.{ordered_week}
 use Rattle.planner.specs.Choose.{ChooseAnswer, refused_plan, choose_answer}
 use Rattle.book.specs.declared.book.Book.{Book}
 use Rattle.book.specs.Fault.{open_fault, add_fault, withdraw_fault}
@@ -19,6 +21,9 @@ use Rattle.book.specs.Answer.{open_answer, add_answer, withdraw_answer, plan_ans
 use Rattle.week.proofs.First.{number_of_lem}
 use Rattle.week.proofs.Faults.{fault_refuses}
 use Rattle.week.proofs.Answering.{Answers, answers, unless_passed, unless_refused_lem}
+use Rattle.week.proofs.Writing.{ordered_written}
+use Rattle.judge.proofs.Fit.{list_counted}
+use Rattle.planner.proofs.Demands.{choose_plans}
 
 -- a call's answer is that of a result which tells the same refusal, and the list where nothing refuses
 changed_answer : {fault : Refusal} {book : Book} {list : Week} {answer : CallAnswer} →
@@ -40,12 +45,12 @@ open_changes t c empty = rw empty (changed_answer (open_answers t c))
 module _ (book : Book) where
   pub add_answers : (b : Batch) →
       Answers (add_fault book.list b) (hands_back book)
-      (hands_back (holding book (insert_in book.list.opening b (held_in book))) accepted) (add_answer book b)
+      (hands_back (holding book (held_in book ++ (b ∷ []))) accepted) (add_answer book b)
   unfolding add_answer
   add_answers b = answers _ _ _
 
   pub add_changes : (b : Batch) (r : Result Week Fault) → refusal_of r ≡ add_fault book.list b →
-      IfOk r (λ after. after ≡ written book.list.opening book.list.closing (insert_in book.list.opening b (held_in book))) →
+      IfOk r (λ after. after ≡ written book.list.opening book.list.closing (ordered book.list.opening (held_in book ++ (b ∷ [])))) →
       changed book r ≡ add_answer book b
   add_changes b = changed_answer (add_answers b)
 
@@ -56,7 +61,7 @@ module _ (book : Book) where
   withdraw_answers number = answers _ _ _
 
   pub withdraw_changes : (number : ℕ) (r : Result Week Fault) → refusal_of r ≡ withdraw_fault book.list number →
-      IfOk r (λ after. after ≡ written book.list.opening book.list.closing (without number (held_in book))) →
+      IfOk r (λ after. after ≡ written book.list.opening book.list.closing (ordered book.list.opening (without number (held_in book)))) →
       changed book r ≡ withdraw_answer book number
   withdraw_changes number = changed_answer (withdraw_answers number)
 
@@ -66,9 +71,17 @@ module _ (book : Book) where
     unfolding plan_answer
     plan_refused n = rw (← chosen, unless_refused_lem plan.refusal (holding book (held_in book)) book n)
 
-    pub plan_passed : plan.refusal.number ≡ 0 → plan_answer book size ≡ record { plan = plan; book = holding book (held_in book) }
+    pub plan_passed : {list : Week} → list ≡ ordered_week book.list → plan.refusal.number ≡ 0 →
+        plan_answer book size ≡ record { plan = plan; book = record { list = list } }
     unfolding plan_answer
-    plan_passed z = rw (← chosen, unless_passed plan.refusal (holding book (held_in book)) book z)
+    plan_passed is z =
+        let w = book.list in
+        let formed = ((choose_plans w size).0 (rw chosen at z)).0 in
+        rw (
+          ← chosen,
+          unless_passed plan.refusal (holding book (held_in book)) book z,
+          ordered_written (batches_of w) w is refl refl (sym (list_counted w formed)) refl,
+        )
 
   -- a refused one, of which the numbers tell
   pub plan_failed : (size : ℕ) (fault : Fault) → refused_plan (numbers fault) ≡ choose_answer book.list size →

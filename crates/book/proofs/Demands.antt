@@ -7,23 +7,28 @@ use mathlib.Core.Logic.{◌↔◌}
 use mathlib.Core.Bool.{true, true≢false}
 use mathlib.Core.List.{List, [], ◌∷◌, ◌++◌, map}
 use lib.ListN.{length}
-use Rattle.arrays.specs.Rearranged.{Perm}
+use Rattle.arrays.specs.Rearranged.{Perm, both}
+use Rattle.arrays.proofs.Rearranges.{perm_sym, perm-length}
 use Rattle.week.specs.declared.record.Batch.{Batch}
 use Rattle.week.specs.declared.refusal.Refusal.{Refusal}
 use Rattle.week.specs.Record.{Week, max_minutes, max_batches, empty_week}
 use Rattle.week.specs.Refusal.{accepted, refused, refused_if, or_else, first_of, first}
 use Rattle.week.specs.RefusalOrder.{one_of}
 use Rattle.week.specs.Order.{InOrder, ordered}
-use Rattle.week.specs.Numbers.{is_held}
+use Rattle.week.specs.Numbers.{is_held, without}
 use Rattle.week.specs.Written.{written}
+use Rattle.week.specs.Ordered.{Rearranged}
 use Rattle.week.proofs.First.{number_of_lem, refuses_too}
-use Rattle.week.proofs.Answering.{unless_refused_lem}
-use Rattle.week.proofs.Ordering.{ordered_perm, ordered_only}
+use Rattle.week.proofs.Answering.{unless_passed, unless_refused_lem}
+use Rattle.week.proofs.Ordering.{ordered_perm}
+use Rattle.week.proofs.Writing.{written_batches}
 use Rattle.judge.specs.Fault.{week_fault, list_fault, WellFormed}
 use Rattle.judge.specs.Fit.{Fit}
 use Rattle.judge.proofs.WellFormed.{minutes_passes}
 use Rattle.planner.specs.Choose.{ChooseAnswer, refused_plan, choose_answer, table_after}
 use Rattle.planner.proofs.Choosing.{choose_refusal, fill_list, plan_refused as choose-refused}
+use Rattle.planner.proofs.AnyOrder.{same_choose, same_table}
+use Rattle.planner.proofs.Demands.{choose_plans}
 use Rattle.book.specs.declared.book.Book.{Book}
 use Rattle.book.specs.Fault.{open_fault, join_fault, leave_fault}
 use Rattle.book.specs.Joins.{Joins}
@@ -33,14 +38,25 @@ use Rattle.book.proofs.Faults.{add_list, add_join, add_passes, withdraw_list, wi
 use Rattle.book.proofs.Joining.{join_passes, leave_passes}
 use Rattle.book.proofs.Answering.{open_answers, add_answers, withdraw_answers, plan_refused}
 use Rattle.book.proofs.HandedBack.{open_refusal, add_refusal, add_book, withdraw_refusal, withdraw_book}
-use Rattle.book.proofs.Histories.{Kept, book_of, kept_most, kept_in_order, kept_passes, kept_adds, kept_withdraws}
-use Rattle.book.proofs.Histories.{calls_kept, calls_book, open_kept, open_book, collected-append, all_taken}
+use Rattle.book.proofs.Histories.{Kept, book_of, formed_kept, kept_most, kept_in_order, kept_passes, kept_adds, kept_withdraws}
+use Rattle.book.proofs.Histories.{kept_more, kept_less, calls_kept, calls_book, open_kept, open_book, collected-append, all_taken}
 use Rattle.book.proofs.Named.{new_numbers, open_each, join_each, leave_each, choose_each}
 
 -- what planning a book answers, and fills the table lent with, is what Choose does on a list
 pub record PlansAs (book : Book) (list : Week) (table : List ℕ) : Type 0 where
   pub answers : (plan_answer book (length table)).plan ≡ choose_answer list (length table)
   pub fills : table_after book.list table ≡ table_after list table
+
+-- Document 02, Two: "Two accepted lists that are rearrangements of each other get the same plan.": planning a book is Choose on each
+-- rearrangement of the list that it holds, and so planning a book that holds one.
+pub plans_alike : (book : Book) (w : Week) → Rearranged book.list w → WellFormed book.list → (table : List ℕ) → PlansAs book w table
+unfolding plan_answer
+plans_alike book w same list table = record { answers = same_choose same list (length table); fills = same_table same list table }
+
+-- lists written from rearrangements are rearrangements
+written_rearranged : (t c : ℕ) {bs cs : List Batch} → Perm bs cs → Rearranged (written t c bs) (written t c cs)
+written_rearranged t c {bs} {cs} p =
+    record { opening = refl; closing = refl; count = perm-length p; batches = rw (written_batches t c bs, written_batches t c cs) p }
 
 -- a list of some batches, in order
 pub record ListOf (t c : ℕ) (bs cs : List Batch) : Type 0 where
@@ -67,13 +83,12 @@ module _ (t c : ℕ) (opened : open_fault t c ≡ accepted) (calls : List Call) 
         most = kept_most kept;
       }
 
-  -- .. and whoever writes one afresh, in order, writes that one.
-  pub history_plans : (bs : List Batch) → Perm (collected c calls []) bs → InOrder t bs → (table : List ℕ) →
+  -- .. and on one that is written afresh in whatever order Choose does the same.
+  pub history_plans : (bs : List Batch) → Perm (collected c calls []) bs → (table : List ℕ) →
       PlansAs (after_calls calls (open_answer t c).book) (written t c bs) table
-  unfolding plan_answer
-  history_plans bs perm order table =
-      let same = ordered_only t (collected c calls []) bs kept.fit.differ perm order in
-      rw (history_book, same) record { answers = refl; fills = refl }
+  history_plans bs perm table =
+      let same = written_rearranged t c (both (perm_sym history_list.rearranged) perm) in
+      rw history_book (plans_alike (book_of t c (collected c calls [])) (written t c bs) same history_list.well_formed table)
 
   -- What is added and what is withdrawn is said of those batches, without a book: the book refuses just what they do.
   pub history_adds : (b : Batch) → (add_answer (after_calls calls (open_answer t c).book) b).refusal ≡ join_fault c (collected c calls []) b
@@ -115,6 +130,39 @@ module _ (book : Book) where
         λ z. let both = withdraw_passes book.list number z in (both.0, leaves.0 both.1),
         λ (list, h). number_of_lem (withdraw_leave book.list number list) ∙ leaves.1 h,
       )
+
+-- Document 02, Two: "an accepted call hands a book back in that order", whatever order the held list stands in: some batches, none lost or
+-- doubled, each of which stands before every later one.
+pub record HoldsInOrder (bs : List Batch) (book : Book) : Type 0 where
+  pub rearranged : Perm bs (held_in book)
+  pub order : InOrder book.list.opening (held_in book)
+
+pub record HandsInOrder (book : Book) : Type 0 where
+  pub adds : (b : Batch) → (add_answer book b).refusal.number ≡ 0 → HoldsInOrder (held_in book ++ (b ∷ [])) (add_answer book b).book
+  pub withdraws : (number : ℕ) → (withdraw_answer book number).refusal.number ≡ 0 →
+      HoldsInOrder (without number (held_in book)) (withdraw_answer book number).book
+  pub plans : (size : ℕ) → (plan_answer book size).plan.refusal.number ≡ 0 → HoldsInOrder (held_in book) (plan_answer book size).book
+
+holds_in_order : {t c : ℕ} {bs : List Batch} {book : Book} → Kept t c bs → book ≡ book_of t c bs → HoldsInOrder bs book
+holds_in_order {t} {c} {bs} able is =
+    let held : held_in (book_of t c bs) ≡ ordered t bs = written_batches t c (ordered t bs) in
+    rw is record { rearranged = rw held (ordered_perm t bs); order = rw held (kept_in_order able) }
+
+pub hands_in_order : (book : Book) → HandsInOrder book
+unfolding plan_answer
+hands_in_order book =
+    let w = book.list in
+    record {
+      adds = λ b z.
+          let (list, joins) = (add_accepts book b).0 z in
+          holds_in_order (kept_more (formed_kept w list) joins)
+          (add_book book b ∙ unless_passed _ _ _ (number_of_lem (sym (add_refusal book b)) ∙ z));
+      withdraws = λ number z.
+          let (list, held) = (withdraw_accepts book number).0 z in
+          holds_in_order (kept_less (formed_kept w list) number)
+          (withdraw_book book number ∙ unless_passed _ _ _ (number_of_lem (sym (withdraw_refusal book number)) ∙ z));
+      plans = λ size z. holds_in_order (formed_kept w ((choose_plans w size).0 z).0) (unless_passed _ _ _ z);
+    }
 
 -- "1 and 2 (opening; a refused one hands back an empty book of week 0 to 0)", a list that is itself refused, by 1
 pub open_refused : (t c : ℕ) → ((open_fault t c).number ≡ 0 → ⊥) → open_answer t c ≡ hands_back (empty_book 0 0) (open_fault t c)

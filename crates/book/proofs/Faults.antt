@@ -4,9 +4,7 @@ use native.Mathlib.Decide.{ℕ_discrete}
 use native.Mathlib.Omega.{arith}
 use mathlib.Core.Path.{◌≡◌, refl, sym, ap, ◌∙◌}
 use mathlib.Core.Bool.{true, false, not}
-use Rattle.std.proofs.Common.{Result, Ok, Err}
-use Rattle.std.specs.Result.{MatchResult, IsErrAnd}
-use mathlib.Core.List.{List, [], ◌∷◌}
+use mathlib.Core.List.{List, [], ◌∷◌, ◌++◌}
 use lib.ListN.{length}
 use borrow.Author.Tests.{le-leb, lt-leb, le-ltb, eq-eqb, ne_eqb}
 use Rattle.arrays.specs.Each.{some_below}
@@ -15,23 +13,26 @@ use Rattle.week.specs.declared.refusal.Fault.{Fault}
 use Rattle.week.specs.declared.refusal.Refusal.{Refusal}
 use Rattle.week.specs.Record.{Week, max_batches, empty_week}
 use Rattle.week.specs.Refusal.{accepted, refused, refused_if, first_of, first, at_place}
-use Rattle.week.specs.Fault.{numbers, place_in, refusal_of}
-use Rattle.week.specs.Order.{Sorted}
-use Rattle.week.specs.Numbers.{number_in, is_held}
+use Rattle.week.specs.Fault.{numbers, place_in}
+use Rattle.week.specs.Order.{ordered}
+use Rattle.week.specs.Numbers.{Differ, number_in, is_held, without}
 use Rattle.week.specs.Written.{batches_of, written}
+use Rattle.week.specs.Ordered.{ordered_week, Rearranged}
 use Rattle.judge.specs.BatchFault.{own_faults}
-use Rattle.judge.specs.Fault.{minutes_faults, week_fault, number_fault, order_fault, batch_faults, batch_fault, list_fault, WellFormed}
+use Rattle.judge.specs.Fault.{minutes_faults, week_fault, number_fault, batch_faults, batch_fault, list_fault, WellFormed}
 use Rattle.book.specs.Fault.{open_fault, new_faults, join_fault, leave_fault, add_fault, withdraw_fault}
 use Rattle.week.proofs.First.{Proper, number_of_lem, refuses, refused_if_true, refused_if_false, refused_if_proper}
 use Rattle.week.proofs.First.{place_refused, place_number, place_each, first_of_here, first_of_later, first_of_none, first_of_last}
 use Rattle.week.proofs.First.{first_of_proper, append_first, append_last, append_accepted, first_proper}
 use Rattle.week.proofs.Faults.{fault_refuses}
 use Rattle.week.proofs.Passes.{first_of_passes, append_passes}
-use Rattle.week.proofs.Ordering.{in_order_sorted}
-use Rattle.week.proofs.Writing.{batches_counted}
+use Rattle.week.proofs.Ordered.{ordered_batches}
+use Rattle.week.proofs.Without.{ordered_without}
 use Rattle.judge.proofs.WellFormed.{minutes_passes, list_proper}
 use Rattle.judge.proofs.Sound.{sound}
-use Rattle.judge.proofs.Fit.{list_fit}
+use Rattle.judge.proofs.Fit.{list_counted, fit_list}
+use Rattle.judge.proofs.AnyOrder.{in_order_rearranged, in_order_passes}
+use Rattle.book.proofs.Joining.{join_perm, leave_perm, ordered_joined}
 use Rattle.book.proofs.Named.{new_each}
 
 -- ---- the minutes of a week
@@ -63,19 +64,19 @@ empty_fault t c =
 placed_proper : (place : ℕ) (rs : List Refusal) → Proper (at_place place (first_of rs))
 placed_proper place rs = rw (place_each place rs) (first_of_proper _)
 
--- what a list of it has against it, in place 1: 10 never holds of the first batch
+-- what a list of it has against it, in place 1
 pub alone_fault : (t c : ℕ) (b : Batch) → open_fault t c ≡ accepted →
     list_fault (written t c (b ∷ [])) ≡ at_place 1 (first_of (new_faults c [] b))
-unfolding list_fault first batch_fault first_of number_fault order_fault refused_if some_below
+unfolding list_fault first batch_fault first_of number_fault some_below
 alone_fault t c b minutes =
     let w = written t c (b ∷ []) in
     first_of_last (week_fault w) (first (batch_fault w) 0 1) (number_of_lem (minutes_decide w (omega arith) ∙ minutes))
     (first_proper (batch_fault w) 0 1)
-    ∙ append_last [] (batch_fault w 0) (placed_proper 1 (batch_faults w 0)) refl ∙ ap (at_place 1) (append_accepted (new_faults c [] b))
+    ∙ append_last [] (batch_fault w 0) (placed_proper 1 (batch_faults w 0)) refl
 
--- so what refuses that list refuses the batch, in no place
+-- so what refuses that list refuses the batch, in no place; and where nothing does, nothing refuses the batch
 module _ (t c : ℕ) (b : Batch) (minutes : open_fault t c ≡ accepted) where
-  out_of_place : (f : Fault) → numbers f ≡ list_fault (written t c (b ∷ [])) → numbers (place_in 0 f) ≡ first_of (new_faults c [] b)
+  pub out_of_place : (f : Fault) → numbers f ≡ list_fault (written t c (b ∷ [])) → numbers (place_in 0 f) ≡ first_of (new_faults c [] b)
   out_of_place f same =
       let placed : numbers f ≡ at_place 1 (first_of (new_faults c [] b)) = same ∙ alone_fault t c b minutes in
       let alone = first_of (new_faults c [] b) in
@@ -84,13 +85,10 @@ module _ (t c : ℕ) (b : Batch) (minutes : open_fault t c ≡ accepted) where
       ap (λ (r : Refusal). refused r.number 0 r.recipe) (placed ∙ place_refused 1 alone some)
       ∙ ap (λ (p : ℕ). refused alone.number p alone.recipe) (sym none)
 
-  pub unplaced : (r s : Result (Unit {0}) Fault) → refusal_of r ≡ list_fault (written t c (b ∷ [])) →
-      MatchResult r (λ x. s ≡ Ok x) (λ e. IsErrAnd s (λ f. f ≡ place_in 0 e)) → refusal_of s ≡ first_of (new_faults c [] b)
-  unplaced (Ok x) s same is =
+  pub alone_passed : accepted ≡ list_fault (written t c (b ∷ [])) → accepted ≡ first_of (new_faults c [] b)
+  alone_passed same =
       let passed = number_of_lem (sym (same ∙ alone_fault t c b minutes)) in
-      ap refusal_of is ∙ sym (first_of_proper _ (sym (place_number 1 _) ∙ passed))
-  unplaced (Err e) (Ok y) same is = absurd is
-  unplaced (Err e) (Err f) same is = ap numbers is ∙ out_of_place e same
+      sym (first_of_proper _ (sym (place_number 1 _) ∙ passed))
 
 -- ---- a batch that is new to others
 number_proper : (numbers : ℕ → ℕ) (n : ℕ) (b : Batch) → Proper (number_fault numbers n b)
@@ -182,17 +180,6 @@ module _ (w : Week) (b : Batch) where
   unfolding add_fault
   add_passes z = let both = (first_of_passes _).0 z in (list_proper w both.0, both.1.0)
 
-  -- of a list whose array has its length: 20 where it is full, else what the new batch is refused for
-  module _ (long : length w.batches ≡ max_batches) (list : WellFormed w) where
-    counted : length (batches_of w) ≡ w.count
-    counted = batches_counted w long (sound w list).most
-
-    pub add_full : max_batches ≤ w.count → add_fault w b ≡ refused 20 0 0
-    add_full full = add_join list ∙ join_full w.closing (batches_of w) b (omega (arith, counted))
-
-    pub add_new : w.count < max_batches → add_fault w b ≡ first_of (new_faults w.closing (batches_of w) b)
-    add_new room = add_join list ∙ join_new w.closing (batches_of w) b (omega (arith, counted))
-
 module _ (w : Week) (number : ℕ) where
   pub withdraw_list : ((list_fault w).number ≡ 0 → ⊥) → withdraw_fault w number ≡ list_fault w
   unfolding withdraw_fault
@@ -202,25 +189,54 @@ module _ (w : Week) (number : ℕ) where
   unfolding withdraw_fault
   withdraw_leave list = first_of_last _ _ (number_of_lem list) (leave_proper (batches_of w) number)
 
-  pub withdraw_gone : WellFormed w → is_held number (batches_of w) ≡ false → withdraw_fault w number ≡ refused 21 0 0
-  unfolding leave_fault
-  withdraw_gone list gone = withdraw_leave list ∙ refused_if_true 21 0 0 (ap not gone)
-
-  pub withdraw_held : WellFormed w → is_held number (batches_of w) ≡ true → withdraw_fault w number ≡ accepted
-  unfolding leave_fault
-  withdraw_held list held = withdraw_leave list ∙ refused_if_false 21 0 0 (ap not held)
-
   pub withdraw_passes : (withdraw_fault w number).number ≡ 0 → WellFormed w × ((leave_fault (batches_of w) number).number ≡ 0)
   unfolding withdraw_fault
   withdraw_passes z = let both = (first_of_passes _).0 z in (list_proper w both.0, both.1.0)
 
--- ---- a held list that is well formed stands in order
-pub well_sorted : (w : Week) → length w.batches ≡ max_batches → WellFormed w → Sorted w.opening (batches_of w)
-well_sorted w long list = in_order_sorted w.opening (batches_of w) ((list_fit w long).0 list).2
+-- ---- the list in order, on which a call works once the held one is accepted
+module _ (w : Week) {v : Week} (is : v ≡ ordered_week w) (list : WellFormed w) where
+  pub ordered_formed : WellFormed v
+  ordered_formed = rw is (in_order_passes w list)
+
+  same : Rearranged w v
+  same = rw is (in_order_rearranged w list)
+
+  differ : Differ (batches_of w)
+  differ = (fit_list w list).differ
+
+  -- 20 where it is full, else what the new batch is refused for; and the list with it
+  module _ (b : Batch) where
+    pub add_full : max_batches ≤ v.count → add_fault w b ≡ refused 20 0 0
+    add_full full = add_join w b list ∙ join_full w.closing (batches_of w) b (omega (arith, list_counted w list, same.count))
+
+    pub add_new : v.count < max_batches → add_fault w b ≡ first_of (new_faults v.closing (batches_of v) b)
+    add_new room =
+        let free : length (batches_of v) < max_batches = omega (arith, list_counted v ordered_formed) in
+        add_join w b list ∙ join_perm same.batches w.closing b ∙ rw same.closing (join_new v.closing (batches_of v) b free)
+
+    pub add_written : {after : Week} → after ≡ written v.opening v.closing (ordered v.opening (batches_of v ++ (b ∷ []))) →
+        after ≡ written w.opening w.closing (ordered w.opening (batches_of w ++ (b ∷ [])))
+    add_written e = rw (same.opening, same.closing, ordered_joined same.batches v.opening differ b) e
+
+  -- 21 where no batch has the number; and the list without it
+  module _ (number : ℕ) where
+    pub withdraw_gone : is_held number (batches_of v) ≡ false → withdraw_fault w number ≡ refused 21 0 0
+    unfolding leave_fault
+    withdraw_gone gone = withdraw_leave w number list ∙ leave_perm same.batches number ∙ refused_if_true 21 0 0 (ap not gone)
+
+    pub withdraw_held : is_held number (batches_of v) ≡ true → withdraw_fault w number ≡ accepted
+    unfolding leave_fault
+    withdraw_held held = withdraw_leave w number list ∙ leave_perm same.batches number ∙ refused_if_false 21 0 0 (ap not held)
+
+    pub withdraw_written : {after : Week} → after ≡ written v.opening v.closing (without number (batches_of v)) →
+        after ≡ written w.opening w.closing (ordered w.opening (without number (batches_of w)))
+    withdraw_written e =
+        let order : batches_of v ≡ ordered w.opening (batches_of w) = rw is (ordered_batches w (list_counted w list)) in
+        rw (ordered_without number w.opening (batches_of w) differ, ← order, same.opening, same.closing) e
 
 -- ---- what decides of a batch that is new, and of a call that joins or leaves
 pub ruleset new_decides = (new_alone, new_taken, new_free, fault_refuses)
 
-pub ruleset add_decides = (add_list, add_full, add_new, well_sorted, fault_refuses)
+pub ruleset add_decides = (add_list, add_full, add_new, add_written, ordered_formed, fault_refuses)
 
-pub ruleset withdraw_decides = (withdraw_list, withdraw_gone, withdraw_held, fault_refuses)
+pub ruleset withdraw_decides = (withdraw_list, withdraw_gone, withdraw_held, withdraw_written, fault_refuses)

@@ -2,10 +2,10 @@
 use Prim.Native.Nat.{ℕ}
 use native.Mathlib.Decide.{ℕ_discrete}
 use mathlib.Core.Path.{◌≡◌, refl, sym, ap, ◌∙◌}
+use mathlib.Core.List.{[], ◌∷◌, ◌++◌}
 use Rattle.week.specs.declared.record.Batch.{Batch}
 use Rattle.week.specs.declared.refusal.Refusal.{Refusal}
 use Rattle.week.specs.Refusal.{accepted, unless_refused}
-use Rattle.week.specs.Order.{insert_in}
 use Rattle.week.specs.Numbers.{without}
 use Rattle.week.proofs.First.{Proper, first_of_proper}
 use Rattle.week.proofs.Answering.{Answers, answers_name, unless_passed, unless_refused_lem}
@@ -37,7 +37,7 @@ module _ (book : Book) where
 
   pub add_book : (b : Batch) →
       (add_answer book b).book
-      ≡ unless_refused (add_fault book.list b) (holding book (insert_in book.list.opening b (held_in book))) book
+      ≡ unless_refused (add_fault book.list b) (holding book (held_in book ++ (b ∷ []))) book
   add_book b = hands_book (add_answers book b)
 
   pub withdraw_refusal : (number : ℕ) → (withdraw_answer book number).refusal ≡ withdraw_fault book.list number

@@ -12,20 +12,20 @@ use Rattle.arrays.proofs.Pairs.{all_map, all_append, pairs_middle}
 use Rattle.arrays.proofs.Rearranges.{perm-length, perm_middle}
 use Rattle.week.specs.declared.record.Batch.{Batch}
 use Rattle.week.specs.declared.refusal.Refusal.{Refusal}
-use Rattle.week.specs.Record.{max_batches}
+use Rattle.week.specs.Record.{Week, max_batches}
 use Rattle.week.specs.Refusal.{accepted, unless_refused}
-use Rattle.week.specs.Order.{InOrder, insert_in, among, ordered}
+use Rattle.week.specs.Order.{InOrder, among, ordered}
 use Rattle.week.specs.Numbers.{Others, without}
-use Rattle.week.specs.Written.{written}
+use Rattle.week.specs.Written.{batches_of, written}
 use Rattle.week.proofs.First.{number_of_lem}
 use Rattle.week.proofs.Answering.{unless_passed, unless_both, unless-map}
-use Rattle.week.proofs.Ordering.{ordered_perm, ordered_in_order, ordered_more}
-use Rattle.week.proofs.Without.{without-length, ordered_without}
+use Rattle.week.proofs.Ordering.{ordered_perm, ordered_in_order, ordered_same}
+use Rattle.week.proofs.Without.{without-length, without_perm}
 use Rattle.week.proofs.Writing.{written_batches}
 use Rattle.judge.specs.Fault.{WellFormed}
 use Rattle.judge.specs.Fit.{Fit}
 use Rattle.judge.proofs.WellFormed.{minutes_passes}
-use Rattle.judge.proofs.Fit.{fit_perm, fit_more, fit_without}
+use Rattle.judge.proofs.Fit.{list_fit, list_counted, fit_perm, fit_more, fit_without}
 use Rattle.judge.proofs.Written.{written_passes}
 use Rattle.planner.specs.Choose.{choose_answer}
 use Rattle.book.specs.declared.book.Book.{Book}
@@ -36,7 +36,7 @@ use Rattle.book.specs.History.{Call, adds, withdraws, plans, after_call, after_c
 use Rattle.book.proofs.Faults.{add_join, withdraw_leave}
 use Rattle.book.proofs.Answering.{open_answers}
 use Rattle.book.proofs.HandedBack.{add_book, withdraw_book}
-use Rattle.book.proofs.Joining.{join_passes, join_perm, leave_perm}
+use Rattle.book.proofs.Joining.{join_passes, join_perm, leave_perm, ordered_joined}
 
 -- batches that can make a list, in the week from t to c
 pub record Kept (t c : ℕ) (bs : List Batch) : Type 0 where
@@ -47,6 +47,13 @@ pub record Kept (t c : ℕ) (bs : List Batch) : Type 0 where
 abbrev pub book_of : (t c : ℕ) → List Batch → Book
 book_of t c bs = record { list = written t c (ordered t bs) }
 
+-- those of a list that is well formed are such
+pub formed_kept : (w : Week) → WellFormed w → Kept w.opening w.closing (batches_of w)
+formed_kept w list =
+    let counted = list_counted w list in
+    let passed = (list_fit w counted).0 list in
+    record { most = omega (arith, counted, passed.0); fit = passed.1 }
+
 module _ {t c : ℕ} {bs : List Batch} (kept : Kept t c bs) where
   -- ---- the list that the book holds
   pub kept_most : length (ordered t bs) ≤ max_batches
@@ -56,7 +63,7 @@ module _ {t c : ℕ} {bs : List Batch} (kept : Kept t c bs) where
   kept_in_order = ordered_in_order t bs kept.fit.differ
 
   pub kept_passes : WellFormed (written t c (ordered t bs))
-  kept_passes = (written_passes t c (ordered t bs) kept_most).1 (fit_perm (ordered_perm t bs) kept.fit, kept_in_order)
+  kept_passes = (written_passes t c (ordered t bs) kept_most).1 (fit_perm (ordered_perm t bs) kept.fit)
 
   -- ---- what refuses a call is said over the collection
   pub kept_adds : (b : Batch) → add_fault (written t c (ordered t bs)) b ≡ join_fault c bs b
@@ -72,11 +79,16 @@ module _ {t c : ℕ} {bs : List Batch} (kept : Kept t c bs) where
       ∙ sym (leave_perm (ordered_perm t bs) number)
 
   -- ---- a call
-  -- the next book holds what f makes of the list, which is the next collection in order
-  next_book : (f : List Batch → List Batch) (cs : List Batch) → ordered t cs ≡ f (ordered t bs) →
+  -- those of a number left out
+  pub kept_less : (number : ℕ) → Kept t c (without number bs)
+  kept_less number = record { most = omega (arith, without-length number bs, kept.most); fit = fit_without number kept.fit }
+
+  -- the next book holds what f makes of the list, in order, as the next collection is
+  next_book : (f : List Batch → List Batch) (cs : List Batch) → ordered t cs ≡ ordered t (f (ordered t bs)) →
       holding (book_of t c bs) (f (held_in (book_of t c bs))) ≡ book_of t c cs
   next_book f cs e =
-      ap (λ (ds : List Batch). record { list = written t c ds }) (ap f (written_batches t c (ordered t bs)) ∙ sym e)
+      ap (λ (ds : List Batch). holding (book_of t c bs) (f ds)) (written_batches t c (ordered t bs))
+      ∙ ap (λ (ds : List Batch). record { list = written t c ds }) (sym e)
 
   -- it is handed back, or the book
   either_book : {fault : Refusal} (other : Refusal) {next : Book} (cs : List Batch) → fault ≡ other → next ≡ book_of t c cs →
@@ -88,17 +100,19 @@ module _ {t c : ℕ} {bs : List Batch} (kept : Kept t c bs) where
   unfolding plan_answer
   call_book (adds b) =
       add_book (book_of t c bs) b
-      ∙ either_book (join_fault c bs b) (bs ++ (b ∷ [])) (kept_adds b) (next_book (insert_in t b) (bs ++ (b ∷ [])) (ordered_more t bs b))
+      ∙ either_book (join_fault c bs b) (bs ++ (b ∷ [])) (kept_adds b)
+      (next_book (λ ds. ds ++ (b ∷ [])) (bs ++ (b ∷ [])) (ordered_joined (ordered_perm t bs) t kept.fit.differ b))
   call_book (withdraws number) =
       withdraw_book (book_of t c bs) number
       ∙ either_book (leave_fault bs number) (without number bs) (kept_withdraws number)
-      (next_book (without number) (without number bs) (ordered_without number t bs kept.fit.differ))
+      (next_book (without number) (without number bs)
+      (ordered_same t (kept_less number).fit.differ (without_perm number (ordered_perm t bs))))
   call_book (plans table) =
       unless_both (λ (book : Book). book ≡ book_of t c bs) (choose_answer (written t c (ordered t bs)) (length table)).refusal
-      (λ _. next_book (λ ds. ds) bs refl) refl
+      (λ _. next_book (λ ds. ds) bs (ordered_same t kept.fit.differ (ordered_perm t bs))) refl
 
   -- one more that may join
-  kept_more : {b : Batch} → Joins c bs b → Kept t c (bs ++ (b ∷ []))
+  pub kept_more : {b : Batch} → Joins c bs b → Kept t c (bs ++ (b ∷ []))
   kept_more {b} joins =
       let others : All (Others b) bs = all_map (λ x other e. other (sym e)) bs joins.new in
       let last : Perm (b ∷ bs) (bs ++ (b ∷ [])) = rw append-nil at (perm_middle b bs []) in
@@ -109,9 +123,7 @@ module _ {t c : ℕ} {bs : List Batch} (kept : Kept t c bs) where
 
   pub call_kept : (call : Call) → Kept t c (collected_by c call bs)
   call_kept (adds b) = unless_both (Kept t c) (join_fault c bs b) (λ z. kept_more ((join_passes c bs b).0 z)) kept
-  call_kept (withdraws number) =
-      unless_both (Kept t c) (leave_fault bs number)
-      (λ _. record { most = omega (arith, without-length number bs, kept.most); fit = fit_without number kept.fit }) kept
+  call_kept (withdraws number) = unless_both (Kept t c) (leave_fault bs number) (λ _. kept_less number) kept
   call_kept (plans table) = kept
 
 module _ {t c : ℕ} where

@@ -1,6 +1,6 @@
 -- Which batch joins some others, and which number leaves them; and that their order does not matter for either.
 use Prim.Native.Nat.{ℕ}
-use mathlib.Core.Path.{◌≡◌, refl, ap, ap₂}
+use mathlib.Core.Path.{◌≡◌, refl, sym, ap, ap₂, ◌∙◌}
 use mathlib.Core.Logic.Iff
 use mathlib.Core.Logic.{◌↔◌}
 use mathlib.Core.Bool.{Bool, true, ◌||◌, not}
@@ -16,9 +16,11 @@ use Rattle.week.specs.declared.record.Batch.{Batch}
 use Rattle.week.specs.declared.refusal.Refusal.{Refusal}
 use Rattle.week.specs.Record.{max_batches, no_batch}
 use Rattle.week.specs.Refusal.{refused_if, first_of}
-use Rattle.week.specs.Numbers.{Others, number_in, is_held}
+use Rattle.week.specs.Order.{insert_in, ordered}
+use Rattle.week.specs.Numbers.{Others, Differ, number_in, is_held}
 use Rattle.week.proofs.Passes.{Passes, if_passes, first_of_passes, append_passes}
 use Rattle.week.proofs.Numbers.{held_perm}
+use Rattle.week.proofs.Ordering.{ordered_same, ordered_more}
 use Rattle.judge.specs.BatchFault.{own_faults}
 use Rattle.judge.specs.Fault.{number_fault}
 use Rattle.judge.proofs.WellFormed.{own_passes, number_passes}
@@ -63,3 +65,7 @@ module _ {bs cs : List Batch} (p : Perm bs cs) where
   pub leave_perm : (number : ℕ) → leave_fault bs number ≡ leave_fault cs number
   unfolding leave_fault
   leave_perm number = ap (λ (q : Bool). refused_if 21 0 0 (not q)) (held_perm number p)
+
+  -- nor for the list in order that one more makes of them
+  pub ordered_joined : (t : ℕ) → Differ bs → (b : Batch) → ordered t (bs ++ (b ∷ [])) ≡ ordered t (cs ++ (b ∷ []))
+  ordered_joined t differ b = ordered_more t bs b ∙ ap (insert_in t b) (ordered_same t differ p) ∙ sym (ordered_more t cs b)

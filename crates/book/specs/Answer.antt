@@ -1,13 +1,13 @@
 -- What each call on the book answers, and the book that it hands back: document 02, One. "a refused call leaves the book"; one that is
--- accepted hands back a list freshly written.
-use Rattle.std.specs.Prelude.{ℕ, List, Result, Ok, Err}
+-- accepted hands back a list freshly written, in order.
+use Rattle.std.specs.Prelude.{ℕ, List, [], ◌∷◌, ◌++◌, Result, Ok, Err}
 use Rattle.week.specs.declared.record.Batch.{Batch}
 use Rattle.week.specs.declared.refusal.Fault.{Fault}
 use Rattle.week.specs.declared.refusal.Refusal.{Refusal}
 use Rattle.week.specs.Record.{Week, empty_week}
 use Rattle.week.specs.Refusal.{accepted, unless_refused, answer_by}
 use Rattle.week.specs.Fault.{numbers, refusal_of}
-use Rattle.week.specs.Order.{insert_in}
+use Rattle.week.specs.Order.{ordered}
 use Rattle.week.specs.Numbers.{without}
 use Rattle.week.specs.Written.{batches_of, written}
 use Rattle.planner.specs.declared.choose.Plan.{Plan}
@@ -33,9 +33,9 @@ empty_book t c = record { list = empty_week t c }
 abbrev pub held_in : Book → List Batch
 held_in book = batches_of book.list
 
--- a book of the same week, with some batches
+-- a book of the same week, with some batches: 02, Two, "an accepted call hands a book back in that order"
 abbrev pub holding : Book → List Batch → Book
-holding book bs = record { list = written book.list.opening book.list.closing bs }
+holding book bs = record { list = written book.list.opening book.list.closing (ordered book.list.opening bs) }
 
 -- an answer with a book
 abbrev pub hands_back : Book → Refusal → CallAnswer
@@ -54,7 +54,7 @@ open_answer t c = answer_by (open_fault t c) (hands_back (empty_book 0 0)) (hand
 unfoldable pub add_answer : Book → Batch → CallAnswer
 add_answer book b =
     answer_by (add_fault book.list b) (hands_back book)
-    (hands_back (holding book (insert_in book.list.opening b (held_in book))) accepted)
+    (hands_back (holding book (held_in book ++ (b ∷ []))) accepted)
 
 -- "withdraw by number"
 unfoldable pub withdraw_answer : Book → ℕ → CallAnswer

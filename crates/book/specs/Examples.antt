@@ -9,11 +9,11 @@ use Rattle.week.specs.declared.record.Recipe.{Recipe}
 use Rattle.week.specs.declared.record.Batch.{Batch}
 use Rattle.week.specs.declared.refusal.Refusal.{Refusal}
 use Rattle.week.specs.Record.{Week, max_batches, batch_at}
-use Rattle.week.specs.Order.{before, insert_in}
+use Rattle.week.specs.Order.{before, insert_in, among, ordered}
 use Rattle.week.specs.Numbers.{is_held, without}
 use Rattle.week.specs.Written.{written}
 use Rattle.week.specs.Refusal.{refused_if, or_else, first_of, first, short_fault, unless_refused, answer_by, at_place}
-use Rattle.judge.specs.Fault.{week_fault, number_fault, order_fault, batch_fault, list_fault}
+use Rattle.judge.specs.Fault.{week_fault, number_fault, batch_fault, list_fault}
 use Rattle.judge.specs.BatchFault.{cost_fault, worth_fault}
 use Rattle.planner.specs.Choose.{max_picks, table_fault, choose_fault, refused_plan, plan_of, choose_answer}
 use Rattle.planner.specs.Examples.{recipe, batch, week_w}
@@ -79,10 +79,18 @@ book_full = record { list = written 0 100 (tabulate (λ i. due_at (suc i) (suc i
 book_room : Book
 book_room = (withdraw_answer book_full 3).book
 
--- two of W's batches out of order, and two in order with another beyond them
+-- a number twice, in places that are others in order
 book_wrong : Book
-book_wrong = record { list = written 0 100 (batch_at week_w 1 ∷ batch_at week_w 0 ∷ []) }
+book_wrong = record { list = written 0 100 (due_at 5 40 ∷ due_at 5 5 ∷ due_at 7 10 ∷ []) }
 
+-- W and J with their last batch first
+book_turned : Book
+book_turned = record { list = written 0 100 (batch_at week_w 2 ∷ batch_at week_w 1 ∷ batch_at week_w 0 ∷ []) }
+
+book_j : Book
+book_j = record { list = written 0 10 (batch 2 0 10 (recipe 5 1 ∷ []) ∷ batch 1 5 9 (recipe 4 1 ∷ []) ∷ []) }
+
+-- two of W's batches, and another beyond them
 book_beyond : Book
 book_beyond = record { list = record { opening = 0; closing = 100; count = 2; batches = week_w.batches } }
 
@@ -114,10 +122,19 @@ table =
     ∷ (refusal_numbers (add_answer book_full (batch 17 0 17 [])).refusal is (20 ∷ 0 ∷ 0 ∷ []))
     ∷ (answers (add_answer book_room (due_at 17 3))
     is (0 ∷ 0 ∷ 0 ∷ 0 ∷ 100 ∷ 1 ∷ 2 ∷ 17 ∷ 4 ∷ 5 ∷ 6 ∷ 7 ∷ 8 ∷ 9 ∷ 10 ∷ 11 ∷ 12 ∷ 13 ∷ 14 ∷ 15 ∷ 16 ∷ []))
-    -- a held list that is out of order is refused with its own place, and stays as it is
-    ∷ (answers (add_answer book_wrong (due_at 1 1)) is (10 ∷ 2 ∷ 0 ∷ 0 ∷ 100 ∷ 8 ∷ 7 ∷ []))
-    ∷ (answers (withdraw_answer book_wrong 1) is (10 ∷ 2 ∷ 0 ∷ 0 ∷ 100 ∷ 8 ∷ 7 ∷ []))
-    ∷ (plans (plan_answer book_wrong max_picks) is (10 ∷ 2 ∷ 0 ∷ 0 ∷ 0 ∷ 0 ∷ 0 ∷ 100 ∷ 8 ∷ 7 ∷ []))
+    -- a held list with a number twice is refused with its own place, and stays as it is
+    ∷ (answers (add_answer book_wrong (due_at 1 1)) is (9 ∷ 2 ∷ 0 ∷ 0 ∷ 100 ∷ 5 ∷ 5 ∷ 7 ∷ []))
+    ∷ (answers (withdraw_answer book_wrong 1) is (9 ∷ 2 ∷ 0 ∷ 0 ∷ 100 ∷ 5 ∷ 5 ∷ 7 ∷ []))
+    ∷ (plans (plan_answer book_wrong max_picks) is (9 ∷ 2 ∷ 0 ∷ 0 ∷ 0 ∷ 0 ∷ 0 ∷ 0 ∷ 100 ∷ 5 ∷ 5 ∷ 7 ∷ []))
+    -- one that is out of order is handed back in order by an accepted call, and as it stands by a refused one, 11 and 14 too
+    ∷ (answers (add_answer book_turned (due_at 1 50)) is (0 ∷ 0 ∷ 0 ∷ 0 ∷ 100 ∷ 7 ∷ 1 ∷ 8 ∷ 9 ∷ []))
+    ∷ (answers (withdraw_answer book_turned 8) is (0 ∷ 0 ∷ 0 ∷ 0 ∷ 100 ∷ 7 ∷ 9 ∷ []))
+    ∷ (plans (plan_answer book_turned max_picks) is (0 ∷ 0 ∷ 0 ∷ 22 ∷ 2 ∷ 1 ∷ 1 ∷ 0 ∷ 100 ∷ 7 ∷ 8 ∷ 9 ∷ []))
+    ∷ (whole (plan_answer book_turned max_picks).book.list is whole week_w)
+    ∷ (answers (add_answer book_turned (due_at 7 50)) is (9 ∷ 0 ∷ 0 ∷ 0 ∷ 100 ∷ 9 ∷ 8 ∷ 7 ∷ []))
+    ∷ (answers (withdraw_answer book_turned 1) is (21 ∷ 0 ∷ 0 ∷ 0 ∷ 100 ∷ 9 ∷ 8 ∷ 7 ∷ []))
+    ∷ (plans (plan_answer book_turned 0) is (11 ∷ 0 ∷ 0 ∷ 0 ∷ 0 ∷ 0 ∷ 0 ∷ 0 ∷ 100 ∷ 9 ∷ 8 ∷ 7 ∷ []))
+    ∷ (plans (plan_answer book_j max_picks) is (14 ∷ 0 ∷ 0 ∷ 0 ∷ 0 ∷ 0 ∷ 0 ∷ 10 ∷ 2 ∷ 1 ∷ []))
     -- beyond the batches held an accepted call leaves empty ones, and a refused one what stood there
     ∷ (whole (plan_answer book_beyond max_picks).book.list is whole (written 0 100 (batch_at week_w 0 ∷ batch_at week_w 1 ∷ [])))
     ∷ (whole (plan_answer book_beyond 0).book.list is whole book_beyond.list)
@@ -126,8 +143,8 @@ table =
 
 examples : agree table ≡ true
 unfolding
-    table same agree week_w book_w book_w8 due_at book_full book_room book_wrong book_beyond stretch_of fits next_bound best before insert_in is_held
-    without some_below refused_if or_else first_of first short_fault unless_refused answer_by at_place week_fault cost_fault worth_fault number_fault
-    order_fault batch_fault list_fault table_fault choose_fault refused_plan plan_of choose_answer open_fault join_fault leave_fault add_fault
-    withdraw_fault open_answer add_answer withdraw_answer plan_answer
+    table same agree week_w book_w book_w8 due_at book_full book_room book_wrong book_turned book_j book_beyond stretch_of fits next_bound
+    best before insert_in among ordered is_held without some_below refused_if or_else first_of first short_fault unless_refused answer_by
+    at_place week_fault cost_fault worth_fault number_fault batch_fault list_fault table_fault choose_fault refused_plan plan_of
+    choose_answer open_fault join_fault leave_fault add_fault withdraw_fault open_answer add_answer withdraw_answer plan_answer
 examples = refl

@@ -1,8 +1,8 @@
 // One batch more, put in order.
-ghost use Rattle.std.specs.Prelude.{◌≡◌, [], IfOk};
+ghost use Rattle.std.specs.Prelude.{◌≡◌, [], ◌∷◌, ◌++◌, IfOk};
 ghost use Rattle.week.specs.Refusal.{first_of};
 ghost use Rattle.week.specs.Fault.{refusal_of};
-ghost use Rattle.week.specs.Order.{insert_in};
+ghost use Rattle.week.specs.Order.{ordered};
 ghost use Rattle.week.specs.Written.{batches_of, written};
 ghost use Rattle.judge.specs.Fault.{WellFormed};
 ghost use Rattle.book.specs.Fault.{new_faults, add_fault};
@@ -21,7 +21,10 @@ fn accept_alone(list: Week, batch: Batch) -> Result<(), Fault>
     ensures { refusal_of result ≡ first_of (new_faults list.closing [] batch) }
 {
     let alone = with_batch(Week::empty(list.opening, list.closing), batch);
-    accept_list(alone).map_err(|fault| fault.in_place(0))
+    if let Err(fault) = accept_list(alone) {
+        return Err(fault.in_place(0));
+    }
+    Ok(())
 }
 
 // 4 to 9 of a batch that is new to a list: its own, then a number that is held.
@@ -37,13 +40,14 @@ fn accept_new(list: Week, batch: Batch) -> Result<(), Fault>
     Ok(())
 }
 
-// The list with the batch put in order: the held list's own refusal; then 20, then 4 to 9 of the new batch.
+// The list with the batch, in order: the held list's own refusal; then 20, then 4 to 9 of the new batch.
 #[tactic(auto, using(crate::proofs::Faults::add_decides))]
 fn added(list: Week, batch: Batch) -> Result<Week, Fault>
     ensures refusal { refusal_of result ≡ add_fault list batch }
-    ensures list { IfOk result (λ after. after ≡ written list.opening list.closing (insert_in list.opening batch (batches_of list))) }
+    ensures list { IfOk result (λ after.
+        after ≡ written list.opening list.closing (ordered list.opening (batches_of list ++ (batch ∷ [])))) }
 {
-    accept_list(list)?;
+    let list = accept_list(list)?;
     if Week::MAX_BATCHES <= list.count {
         return Err(Fault::of(Reason::FullBook));
     }

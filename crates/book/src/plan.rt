@@ -5,7 +5,7 @@ ghost use Rattle.book.specs.Answer.{planned, plan_answer};
 
 use crate::book::{Answered, Book};
 use planner::choose::{Plan, choose};
-use week::written::fresh;
+use week::order::in_order;
 
 // The answer and every byte of the table at exit, on every book and every table.
 #[tactic(auto, using(crate::proofs::Answering::plan_passed, crate::proofs::Answering::plan_failed))]
@@ -16,7 +16,7 @@ pub fn plan(book: Book, table: &mut [u8]) -> Answered<Plan>
     let result = choose(book.list, table);
     let book = match result {
         Ok(_) => Book {
-            list: fresh(book.list),
+            list: in_order(book.list),
         },
         Err(_) => book,
     };

@@ -33,6 +33,7 @@ named name.Batch words = asked command.Batch given_batch words
 named name.Table words = asked command.Table (given_memory max_table) words
 named name.Log words = asked command.Log (given_memory max_log) words
 named name.Choose words = alone command.Choose words
+named name.Records words = alone command.Records words
 named name.Check words = asked command.Check given_choice words
 named name.Run words = asked command.Run given_choice words
 named name.Show words = show_command words

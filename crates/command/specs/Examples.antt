@@ -15,7 +15,7 @@ use Rattle.words.specs.Numbers.{are_numbers, numbers_of}
 use Rattle.command.specs.declared.command.Choice.{Choice}
 use Rattle.command.specs.declared.command.Lent.{Lent}
 use Rattle.command.specs.declared.command.Command.{Command}
-use Rattle.command.specs.declared.command.Command.TheVariants.{Nothing, Week, Batch as OneBatch, Table, Log, Choose, Check}
+use Rattle.command.specs.declared.command.Command.TheVariants.{Nothing, Week, Batch as OneBatch, Table, Log, Choose, Records, Check}
 use Rattle.command.specs.declared.command.Command.TheVariants.{Run, ShowTable, ShowLog, List as TheList, Sheet, Open, Add}
 use Rattle.command.specs.declared.command.Command.TheVariants.{Withdraw, Plan, Book, Hold, Help}
 use Rattle.command.specs.Record.{choice_of}
@@ -54,6 +54,7 @@ command_numbers Plan = 16 ∷ []
 command_numbers Book = 17 ∷ []
 command_numbers Hold = 18 ∷ []
 command_numbers Help = 19 ∷ []
+command_numbers Records = 20 ∷ []
 
 -- so many bytes that are lent, each this value
 abbrev lent : ℕ → ℕ → Lent
@@ -118,6 +119,7 @@ table =
     ∷ (not_one "table 1 2 3")
     -- the operations
     ∷ ("choose" asks Choose)
+    ∷ ("records" asks Records)
     ∷ ("check 1 1 1" asks Check (choice_of (1 ∷ 1 ∷ 1 ∷ [])))
     ∷ ("check" asks Check (choice_of []))
     ∷ ("run 2 1 255" asks Run (choice_of (2 ∷ 1 ∷ 255 ∷ [])))
@@ -157,6 +159,7 @@ table =
     ∷ (not_one "batch 7 0 40 30")
     ∷ (not_one "choose 1")
     ∷ (not_one "choose now")
+    ∷ (not_one "records 1")
     ∷ (not_one "show")
     ∷ (not_one "show week")
     ∷ (not_one "show table log")

@@ -13,6 +13,7 @@ names =
     ∷ (bytes "table", name.Table)
     ∷ (bytes "log", name.Log)
     ∷ (bytes "choose", name.Choose)
+    ∷ (bytes "records", name.Records)
     ∷ (bytes "check", name.Check)
     ∷ (bytes "run", name.Run)
     ∷ (bytes "show", name.Show)

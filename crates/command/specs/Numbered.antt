@@ -14,8 +14,8 @@ use Rattle.command.specs.Record.{choice_of, some_if}
 abbrev pub value_at : List ℕ → ℕ → ℕ
 value_at values i = get_or values i 0
 
--- so many numbers after a name, and nothing else: none after `choose`, `list`, `sheet`, `plan`, `book`, `hold` and `help`; one after
--- `withdraw`; two after `week` and `open`
+-- so many numbers after a name, and nothing else: none after `choose`, `records`, `list`, `sheet`, `plan`, `book`, `hold` and `help`;
+-- one after `withdraw`; two after `week` and `open`
 abbrev pub exactly : ℕ → Numbers → Option (List ℕ)
 exactly n numbers = some_if (eqb numbers.count n) (take n numbers.values)
 

@@ -26,6 +26,7 @@ pub enum Command {
     Table(Lent),
     Log(Lent),
     Choose,
+    Records,
     Check(Choice),
     Run(Choice),
     ShowTable,

@@ -35,6 +35,7 @@ fn command_named(name: Name, rest: &[u8]) -> Option<Command>
         Name::Table => given_memory(MAX_TABLE, numbers?).map(Command::Table),
         Name::Log => given_memory(MAX_LOG, numbers?).map(Command::Log),
         Name::Choose => alone(Command::Choose, numbers?),
+        Name::Records => alone(Command::Records, numbers?),
         Name::Check => given_choice(numbers?).map(Command::Check),
         Name::Run => given_choice(numbers?).map(Command::Run),
         Name::Show => show_command(rest),

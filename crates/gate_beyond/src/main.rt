@@ -1,5 +1,5 @@
-// A program of the gate: what stands beyond a count is never looked at. Case W, with rubbish behind its batches and behind the recipes of
-// each, is answered as case W is.
+// A program of the gate: what stands beyond a count is never looked at. Case W with its last batch first, and with rubbish behind its
+// batches and behind the recipes of each, is answered as case W is.
 #![tactic(auto)]
 
 use answer::line::AnswerText;
@@ -40,9 +40,9 @@ fn recipe(cost: u16, worth: u16) -> Recipe {
 fn case_w() -> Week {
     let mut batches = [rubbish(); Week::MAX_BATCHES];
     batches[..3].copy_from_slice(&[
-        batch(7, 0, 40, recipe(30, 9), recipe(10, 4)),
-        batch(8, 20, 60, recipe(30, 8), recipe(0, 0)),
         batch(9, 0, 100, recipe(50, 10), recipe(20, 5)),
+        batch(8, 20, 60, recipe(30, 8), recipe(0, 0)),
+        batch(7, 0, 40, recipe(30, 9), recipe(10, 4)),
     ]);
     Week {
         opening: 0,

@@ -1,35 +1,31 @@
--- A list is well formed exactly if it is of at most 16 batches, its minutes and batches are fit, and it is in order; and what keeps
--- batches fit.
-use Prim.Native.Nat.{ℕ, zero, suc, ◌≤◌, ◌<◌}
-use native.Mathlib.Decide.{ℕ_discrete}
+-- A list is well formed exactly if it is of at most 16 batches, and its minutes and batches are fit; and what keeps batches fit.
+use Prim.Native.Nat.{ℕ, ◌≤◌, ◌<◌}
+use native.Mathlib.Decide.{dec_le}
 use native.Mathlib.Omega.{arith}
-use mathlib.Core.Path.{◌≡◌}
+use mathlib.Core.Path.{◌≡◌, ap}
 use mathlib.Core.Logic.Iff
 use mathlib.Core.Logic.{◌↔◌}
-use mathlib.Core.Bool.{true}
 use mathlib.Core.List.{List, ◌∷◌}
 use lib.ListN.{length, get_or}
-use lib.Seq.{get_or-take}
+use lib.Seq.{get_or-take, length-take-le}
+use Rattle.std.proofs.lemmas.List.{get_or_past}
 use Rattle.arrays.specs.Each.{All, Pairs}
 use Rattle.arrays.specs.Rearranged.{Perm}
 use Rattle.arrays.proofs.Pairs.{all_index, pairs_index}
 use Rattle.arrays.proofs.Rearranges.{perm_all}
 use Rattle.week.specs.declared.record.Batch.{Batch}
 use Rattle.week.specs.Record.{Week, max_batches, no_batch, batch_at}
-use Rattle.week.specs.Order.{before, InOrder}
 use Rattle.week.specs.Numbers.{Others, without}
 use Rattle.week.specs.Written.{batches_of}
-use Rattle.week.proofs.Before.{before_trans}
 use Rattle.week.proofs.Ordering.{perm_differ}
 use Rattle.week.proofs.Without.{without_all, without_pairs}
-use Rattle.week.proofs.Writing.{batches_counted}
 use Rattle.judge.specs.Fault.{WellFormed}
-use Rattle.judge.specs.Orderly.{Fair}
+use Rattle.judge.specs.Faultless.{Fair}
 use Rattle.judge.specs.Fit.{Fit}
 use Rattle.judge.proofs.WellFormed.{list_passes}
 
--- ---- the batches of a list, by index and as a list
-module _ (w : Week) (long : length w.batches ≡ max_batches) (most : w.count ≤ max_batches) where
+-- ---- the batches of a list, by index and as a list: it has as many as it counts
+module _ (w : Week) (counted : length (batches_of w) ≡ w.count) where
   index_batches : (i : ℕ) → i < w.count → get_or (batches_of w) i no_batch ≡ batch_at w i
   index_batches i = get_or-take w.count w.batches i no_batch
 
@@ -37,60 +33,64 @@ module _ (w : Week) (long : length w.batches ≡ max_batches) (most : w.count �
   all_batches P = (
     λ each.
         (all_index P no_batch (batches_of w)).1
-        (λ i l. let m : i < w.count = omega (arith, batches_counted w long most) in rw index_batches (each i m)),
-    λ all i l. rw index_batches at ((all_index P no_batch (batches_of w)).0 all i (omega (arith, batches_counted w long most))),
+        (λ i l. let m : i < w.count = omega (arith, counted) in rw index_batches (each i m)),
+    λ all i l. rw index_batches at ((all_index P no_batch (batches_of w)).0 all i (omega (arith, counted))),
   )
 
-  pairs_batches : (R : Batch → Batch → Type 0) →
+  pub pairs_batches : (R : Batch → Batch → Type 0) →
       ((h i : ℕ) → h < i → i < w.count → R (batch_at w h) (batch_at w i)) ↔ Pairs R (batches_of w)
   pairs_batches R = (
     λ each.
         (pairs_index R no_batch (batches_of w)).1
         (λ h i l u.
-        let m : i < w.count = omega (arith, batches_counted w long most) in
+        let m : i < w.count = omega (arith, counted) in
         rw (index_batches h (omega arith), index_batches i m) (each h i l m)),
     λ pairs h i l u.
         rw (index_batches h (omega arith), index_batches i u) at
-        ((pairs_index R no_batch (batches_of w)).0 pairs h i l (omega (arith, batches_counted w long most))),
+        ((pairs_index R no_batch (batches_of w)).0 pairs h i l (omega (arith, counted))),
   )
 
--- batches of which each stands before the next stand in order
-pub steps_in_order : (t n : ℕ) (f : ℕ → Batch) → ((i : ℕ) → suc i < n → before t (f i) (f (suc i)) ≡ true) →
-    (h i : ℕ) → h < i → i < n → before t (f h) (f i) ≡ true
-steps_in_order t n f step h zero l u = absurd (omega arith)
-steps_in_order t n f step h (suc i) l u =
-    elim (ℕ_discrete h i) [
-      | yes e ↦ rw e (step i u)
-      | no other ↦ before_trans t (f h) (f i) (f (suc i)) (steps_in_order t n f step h i (omega arith) (omega arith)) (step i u)
-    ]
-
--- the statement
-pub list_fit : (w : Week) → length w.batches ≡ max_batches →
-    WellFormed w ↔ ((w.count ≤ max_batches) × Fit w.opening w.closing (batches_of w) × InOrder w.opening (batches_of w))
-list_fit w long = Iff.trans (list_passes w) (
-  λ orderly.
-      let most = orderly.most in (
-        most,
-        record {
-          opens = orderly.opens;
-          short = orderly.short;
-          fair = (all_batches w long most _).0 orderly.fair;
-          numbered = (all_batches w long most _).0 orderly.numbered;
-          differ = (pairs_batches w long most _).0 orderly.differ;
-        },
-        (pairs_batches w long most _).0 (steps_in_order w.opening w.count (batch_at w) orderly.order),
-      ),
-  λ (most, fit, order).
+  -- the statement
+  pub list_fit : WellFormed w ↔ ((w.count ≤ max_batches) × Fit w.opening w.closing (batches_of w))
+  list_fit = Iff.trans (list_passes w) (
+    λ faultless. (
+      faultless.most,
       record {
-        opens = fit.opens;
-        short = fit.short;
-        most = most;
-        fair = (all_batches w long most _).1 fit.fair;
-        numbered = (all_batches w long most _).1 fit.numbered;
-        differ = (pairs_batches w long most _).1 fit.differ;
-        order = λ i l. (pairs_batches w long most _).1 order i (suc i) (omega arith) l;
+        opens = faultless.opens;
+        short = faultless.short;
+        fair = (all_batches _).0 faultless.fair;
+        numbered = (all_batches _).0 faultless.numbered;
+        differ = (pairs_batches _).0 faultless.differ;
       },
-)
+    ),
+    λ (most, fit).
+        record {
+          opens = fit.opens;
+          short = fit.short;
+          most = most;
+          fair = (all_batches _).1 fit.fair;
+          numbered = (all_batches _).1 fit.numbered;
+          differ = (pairs_batches _).1 fit.differ;
+        },
+  )
+
+-- a list that is well formed does: what stands past the end of an array has no recipe, which 4 refuses
+module _ (w : Week) (list : WellFormed w) where
+  long_enough : w.count ≤ length w.batches
+  long_enough =
+      elim (dec_le w.count (length w.batches)) [
+        | yes enough ↦ enough
+        | no short ↦
+            let i = length w.batches in
+            let fair = ((list_passes w).0 list).fair i (omega (arith, short)) in
+            absurd (omega (arith, fair.some, ap (λ (b : Batch). b.count) (get_or_past w.batches i no_batch (omega arith))))
+      ]
+
+  pub list_counted : length (batches_of w) ≡ w.count
+  list_counted = length-take-le w.count w.batches long_enough
+
+  pub fit_list : Fit w.opening w.closing (batches_of w)
+  fit_list = ((list_fit w list_counted).0 list).1
 
 -- ---- what keeps batches fit
 -- a rearrangement

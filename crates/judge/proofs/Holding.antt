@@ -2,7 +2,6 @@
 use Prim.Native.Nat.{ℕ, zero, suc, ◌-◌, ◌≤◌, ◌<◌}
 use native.Mathlib.Omega.{arith}
 use mathlib.Core.Path.{◌≡◌, refl, sym, ◌∙◌}
-use mathlib.Core.Logic.Iff
 use mathlib.Core.Logic.{inr, ⊎_elim}
 use mathlib.Core.Bool.{true, false, true≢false}
 use mathlib.Core.List.{List, [], ◌∷◌, map, flatten}
@@ -13,6 +12,7 @@ use Rattle.arrays.proofs.Each.{below_some, some_below_lem}
 use Rattle.arrays.proofs.Tests.{lt_holds, le_holds, same_holds, same_fails, not_holds, either_holds, both_hold}
 use Rattle.week.specs.declared.refusal.Refusal.{Refusal}
 use Rattle.week.specs.Record.{Week, max_minutes, max_batches, max_recipes, batch_at, recipe_at, batch_of, number_at, span_of}
+use Rattle.week.specs.Ordered.{ordered_week}
 use Rattle.week.specs.Refusal.{refused, first_of, first, at_place}
 use Rattle.week.specs.RefusalOrder.{one_of, stage, rank, least_place, greatest_place, of_recipe, Naming, NoLater, FirstToHold, ◌when◌, ◌or◌, some_of}
 use Rattle.week.proofs.First.{place_each, place_first, first_up}
@@ -20,8 +20,8 @@ use Rattle.week.proofs.Holding.{if_holds, at_holds, or_holds, one_holds, some_wi
 use Rattle.week.proofs.Holding.{when_rank, FromRank, rank_last, rank_more, stage_ahead}
 use Rattle.week.proofs.Naming.{when_naming}
 use Rattle.judge.specs.BatchFault.{cost_fault, costs_fault, worth_fault, worths_fault}
-use Rattle.judge.specs.Fault.{week_fault, number_fault, order_fault, batch_faults, batch_fault, list_fault, name_fault, choice_fault, handed_faults}
-use Rattle.judge.specs.Holds.{WeekHolds, CostHolds, WorthHolds, NumberHolds, OrderHolds, BatchHolds, ListHolds, NameHolds, ChoiceHolds, list_numbers}
+use Rattle.judge.specs.Fault.{week_fault, number_fault, batch_faults, batch_fault, list_fault, name_fault, choice_fault, handed_faults}
+use Rattle.judge.specs.Holds.{WeekHolds, CostHolds, WorthHolds, NumberHolds, BatchHolds, ListHolds, NameHolds, ChoiceHolds, list_numbers}
 
 -- the stages of the order that a list and a choice are asked in
 abbrev week_stage : ℕ
@@ -44,7 +44,7 @@ module _ (w : Week) where
       (rank_last (if_holds 3 0 0 refl (lt_holds max_batches w.count)) (when_rank 3 0 0 refl refl))) in
       (all.decides, λ r h. (all.within r h).0)
 
-  -- 4 to 10, of the batch of index i
+  -- 4 to 9, of the batch of index i
   module _ (i : ℕ) where
     abbrev CostAt : ℕ → Refusal → Type 0
     CostAt k = refused 7 (suc i) (suc k) when CostHolds w (suc i) k
@@ -93,24 +93,6 @@ module _ (w : Week) where
         taken zero low high same = absurd (omega arith)
         taken (suc h) low high same = some_below_lem _ i h (omega arith) ((same_holds _ _).1 same)
 
-    order_holds :
-        FirstToHold (refused 10 (suc i) 0 when OrderHolds w (suc i))
-        (at_place (suc i) (order_fault w.opening i (batch_at w (i - 1)) (batch_at w i)))
-    unfolding order_fault
-    order_holds =
-        at_holds 10 (suc i) 0 refl
-        (Iff.trans (both_hold _ _ (lt_holds 0 i) (not_holds _ (λ e. e, λ e. e))) (
-          λ h. (omega (arith, h.0), rw (sym (previous i h.0)) h.1),
-          λ h. (omega (arith, h.0), rw (previous i (omega (arith, h.0))) h.1),
-        ))
-      where
-        previous : (i : ℕ) → 0 < i → batch_at w (i - 1) ≡ batch_of w (suc i - 1)
-        previous zero some = absurd (omega arith)
-        previous (suc i) some =
-            let e : suc i - 1 ≡ i = omega arith in
-            let f : suc (suc i) - 1 ≡ suc i = omega arith in
-            rw (e, f)
-
     batch_rank : FromRank batch_stage (suc i) 6 (BatchHolds w (suc i)) (map (at_place (suc i)) (batch_faults w i))
     unfolding stage rank flatten
     batch_rank =
@@ -121,12 +103,12 @@ module _ (w : Week) where
         (rank_more (at_holds 6 (suc i) 0 refl (le_holds w.closing b.arrival)) (when_rank 6 (suc i) 0 refl refl)
         (rank_more costs_hold (λ r (k, _, _, h). when_rank 7 (suc i) (suc k) refl refl r h)
         (rank_more worths_hold (λ r (k, _, _, h). when_rank 8 (suc i) k refl refl r h)
-        (rank_more number_holds (when_rank 9 (suc i) 0 refl refl) (rank_last order_holds (when_rank 10 (suc i) 0 refl refl)))))))
+        (rank_last number_holds (when_rank 9 (suc i) 0 refl refl))))))
 
   batch_place : (i : ℕ) → AtPlace batch_stage (suc i) (BatchHolds w (suc i))
   batch_place i r h = let at = (batch_rank i).within r h in (at.0, at.1)
 
-  -- 4 to 10, "batch by batch"
+  -- 4 to 9, "batch by batch"
   batches_hold : FirstToHold (some_of w.count (BatchHolds w)) (first (batch_fault w) 0 w.count)
   unfolding batch_fault
   batches_hold =
@@ -148,7 +130,7 @@ module _ (w : Week) where
       (λ i l r h. let at = (batch_place i r h).0 in (omega (arith, at), omega (arith, at)))
       r)
 
-  -- 1 to 10
+  -- 1 to 9
   pub list_holds : FirstToHold (ListHolds w) (list_fault w)
   unfolding list_fault first_of
   list_holds =
@@ -185,15 +167,17 @@ module _ (w : Week) where
         ⊎_elim (λ h. (when_place 13 0 0 r h).0)
         (some_within NameAt (λ r. stage r.number ≡ choice_stage) w.count (λ i l r h. (when_place 13 (suc i) 0 r h).0) r)
 
-    -- the two together
-    pub handed_holds : FirstToHold (ListHolds w or ChoiceHolds w choice) (first_of (handed_faults w choice))
-    unfolding first_of
-    handed_holds =
-        or_holds (list_fault w) _ list_holds (λ _. one_holds _ choice_holds)
-        (stage_ahead {σ = batch_stage} (λ r h. (list_stages r h).1) (λ r h. omega (arith, choice_stage_lem r h)))
+-- a list as it is handed in, and then a choice over the list in order
+module _ (w : Week) (choice : List ℕ) where
+  pub handed_holds : FirstToHold (ListHolds w or ChoiceHolds (ordered_week w) choice) (first_of (handed_faults w choice))
+  unfolding first_of
+  handed_holds =
+      or_holds (list_fault w) _ (list_holds w) (λ _. one_holds _ (choice_holds (ordered_week w) choice))
+      (stage_ahead {σ = batch_stage} (λ r h. (list_stages w r h).1) (λ r h. omega (arith, choice_stage_lem (ordered_week w) choice r h)))
 
-    pub handed_stages : (r : Refusal) → (ListHolds w or ChoiceHolds w choice) r → stage r.number ≤ choice_stage
-    handed_stages r = ⊎_elim (λ h. omega (arith, (list_stages r h).1)) (λ h. omega (arith, choice_stage_lem r h))
+  pub handed_stages : (r : Refusal) → (ListHolds w or ChoiceHolds (ordered_week w) choice) r → stage r.number ≤ choice_stage
+  handed_stages r =
+      ⊎_elim (λ h. omega (arith, (list_stages w r h).1)) (λ h. omega (arith, choice_stage_lem (ordered_week w) choice r h))
 
 -- what such a refusal names, whatever the lines of a sheet
 module _ (w : Week) (lines : ℕ) where
@@ -221,7 +205,7 @@ module _ (w : Week) (lines : ℕ) where
           (⊎_elim (in_batch 6 i 0 l refl refl refl (λ _. refl) r)
           (⊎_elim (λ (k, _, _, h). in_batch 7 i (suc k) l refl refl refl (λ no. absurd (true≢false no)) r h)
           (⊎_elim (λ (k, _, _, h). in_batch 8 i k l refl refl refl (λ no. absurd (true≢false no)) r h)
-          (⊎_elim (in_batch 9 i 0 l refl refl refl (λ _. refl) r) (in_batch 10 i 0 l refl refl refl (λ _. refl) r))))))
+          (in_batch 9 i 0 l refl refl refl (λ _. refl) r)))))
 
   pub choice_naming : (choice : List ℕ) (r : Refusal) → ChoiceHolds w choice r → Naming (13 ∷ []) w.count lines r
   unfolding least_place greatest_place

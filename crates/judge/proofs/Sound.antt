@@ -10,11 +10,13 @@ use borrow.Author.Tests.{eqb-true, eq-eqb, not-false}
 use Rattle.arrays.specs.Each.{OneOfEach}
 use Rattle.arrays.proofs.Tests.{lt_fails, zero_fails, or_fails}
 use Rattle.week.specs.Record.{Week, max_minutes, max_batches, max_recipes, batch_at, span_of}
+use Rattle.week.specs.Ordered.{ordered_week}
 use Rattle.week.specs.Refusal.{accepted, first_of}
 use Rattle.judge.specs.Fault.{week_fault, list_fault, name_fault, choice_fault, handed_faults, WellFormed, WellChosen}
 use Rattle.week.proofs.First.{Proper, number_of_lem, first_of_proper}
 use Rattle.week.proofs.Passes.{Passes, proper_passes, if_passes, first_of_passes, first_passes}
 use Rattle.judge.proofs.WellFormed.{week_passes, list_proper, list_passes}
+use Rattle.judge.proofs.AnyOrder.{in_order_passes}
 
 -- of a list, what the scheduling core asks
 pub record Sound (w : Week) : Type 0 where
@@ -24,15 +26,16 @@ pub record Sound (w : Week) : Type 0 where
   pub some : (i : ℕ) → i < w.count → 1 ≤ (batch_at w i).count
   pub few : (i : ℕ) → i < w.count → (batch_at w i).count ≤ max_recipes
 
-pub sound : (w : Week) → WellFormed w → Sound w
+-- a list that passes is so in order
+pub sound : (w : Week) → WellFormed w → Sound (ordered_week w)
 sound w list =
-    let orderly = (list_passes w).0 list in
+    let faultless = (list_passes (ordered_week w)).0 (in_order_passes w list) in
     record {
-      opens = orderly.opens;
-      short = orderly.short;
-      most = orderly.most;
-      some = λ i l. (orderly.fair i l).some;
-      few = λ i l. (orderly.fair i l).few;
+      opens = faultless.opens;
+      short = faultless.short;
+      most = faultless.most;
+      some = λ i l. (faultless.fair i l).some;
+      few = λ i l. (faultless.fair i l).few;
     }
 
 -- and its count, from 1 to 3 alone, and from all that refuses it
@@ -58,9 +61,9 @@ pub choice_proper : (w : Week) (choice : List ℕ) → Proper (choice_fault w ch
 unfolding choice_fault
 choice_proper w choice = first_of_proper _
 
-pub choice_passes : (w : Week) (choice : List ℕ) → WellChosen w choice ↔ Named w choice
+named_passes : (w : Week) (choice : List ℕ) → (choice_fault w choice ≡ accepted) ↔ Named w choice
 unfolding choice_fault
-choice_passes w choice =
+named_passes w choice =
     let size = if_passes 13 0 0 refl (λ e. eqb-true (length choice) w.count (not-false _ e), λ e. ap not (eq-eqb _ _ e)) in
     Iff.trans (proper_passes _ (choice_proper w choice))
     (Iff.trans (first_of_passes _) (
@@ -72,9 +75,13 @@ choice_passes w choice =
       λ h. (size.1 h.whole, ((first_passes _ _).1 (λ i l. (name_passes w choice i).1 (h.each i l)), tt)),
     ))
 
+-- of a choice that is handed in, over the list in order
+pub choice_passes : (w : Week) (choice : List ℕ) → WellChosen w choice ↔ Named (ordered_week w) choice
+choice_passes w = named_passes (ordered_week w)
+
 -- the two together
 pub handed_passes : (w : Week) (choice : List ℕ) → Passes (first_of (handed_faults w choice)) ↔ (WellFormed w × WellChosen w choice)
 handed_passes w choice = Iff.trans (first_of_passes _) (
-  λ (list, (names, _)). (list_proper w list, choice_proper w choice names),
+  λ (list, (names, _)). (list_proper w list, choice_proper (ordered_week w) choice names),
   λ (list, names). (number_of_lem list, (number_of_lem names, tt)),
 )

@@ -1,9 +1,9 @@
 -- The walk over the batches of a list: what holds before each batch, and what decides there.
-use Prim.Native.Nat.{ℕ, zero, suc, ◌+◌, ◌-◌, ◌≤◌, ◌<◌}
+use Prim.Native.Nat.{ℕ, suc, ◌+◌, ◌-◌, ◌≤◌, ◌<◌}
 use native.Mathlib.Nat.{sub-zero}
 use native.Mathlib.Numerals.{add-one}
 use native.Mathlib.Omega.{arith}
-use mathlib.Core.Path.{◌≡◌, refl, sym, ap, ap₂, ◌∙◌}
+use mathlib.Core.Path.{◌≡◌, sym, ap, ◌∙◌}
 use mathlib.Core.Bool.{Bool, ◌||◌}
 use mathlib.Core.List.{List, [], ◌∷◌}
 use lib.ListN.{length, get_or, take}
@@ -16,7 +16,7 @@ use Rattle.week.specs.Record.{Week, no_batch, batch_at, number_at}
 use Rattle.week.specs.Numbers.{number_in}
 use Rattle.week.specs.Refusal.{accepted, refused, refused_if, first_of, first, at_place}
 use Rattle.judge.specs.BatchFault.{before_costs, costs_fault, worths_fault}
-use Rattle.judge.specs.Fault.{number_fault, order_fault, last_among, later_faults, batch_faults, batch_fault}
+use Rattle.judge.specs.Fault.{number_fault, later_faults, batch_faults, batch_fault}
 use Rattle.week.proofs.First.{number_of_lem, refuses_too, place_refused, place_number, first_of_here, first_of_later, append_first}
 use Rattle.week.proofs.First.{append_rest, search_found, search_on, search_over}
 
@@ -41,12 +41,6 @@ module _ (w : Week) (i : ℕ) where
   faults_costs z e n =
       e ∙ sym (append_rest (before_costs w.closing (batch_at w i)) _ z ∙ first_of_here _ _ (refuses_too e n))
 
--- the first batch has none before it
-order_same : (t i : ℕ) (a a' b : Batch) → (0 < i → a ≡ a') → order_fault t i a b ≡ order_fault t i a' b
-unfolding order_fault
-order_same t zero a a' b same = refl
-order_same t (suc i) a a' b same = rw (same (omega arith))
-
 -- those that stand earlier are the first i of the list
 module _ (w : Week) (i : ℕ) {earlier : List Batch} (first_i : earlier ≡ take i w.batches) (size : length earlier ≡ i) where
   entry : (k : ℕ) → k < i → get_or earlier k no_batch ≡ batch_at w k
@@ -59,18 +53,12 @@ module _ (w : Week) (i : ℕ) {earlier : List Batch} (first_i : earlier ≡ take
       ∙ ap (λ (q : Bool). refused_if 9 0 0 (eqb (number_at w i) 0 || q))
       (below_same _ _ i (λ k l. ap (λ (b : Batch). eqb b.number (number_at w i)) (entry k l)))
 
-  same_order : order_fault w.opening (length earlier) (last_among earlier) (batch_at w i)
-      ≡ order_fault w.opening i (batch_at w (i - 1)) (batch_at w i)
-  same_order =
-      ap (λ (n : ℕ). order_fault w.opening n (get_or earlier (n - 1) no_batch) (batch_at w i)) size
-      ∙ order_same w.opening i _ _ (batch_at w i) (λ some. entry (i - 1) (omega arith))
-
-  -- 4 to 7 pass: 8 to 10 decide
+  -- 4 to 7 pass: 8 and 9 decide
   pub faults_later : (early w i).number ≡ 0 → (costs_fault (batch_at w i)).number ≡ 0 →
-      {x : Refusal} → x ≡ first_of (later_faults w.opening earlier (batch_at w i)) → x ≡ first_of (batch_faults w i)
+      {x : Refusal} → x ≡ first_of (later_faults earlier (batch_at w i)) → x ≡ first_of (batch_faults w i)
   faults_later passed costs e =
       e
-      ∙ ap₂ (λ (number order : Refusal). first_of (worths_fault (batch_at w i) ∷ number ∷ order ∷ [])) same_numbers same_order
+      ∙ ap (λ (number : Refusal). first_of (worths_fault (batch_at w i) ∷ number ∷ [])) same_numbers
       ∙ sym (append_rest (before_costs w.closing (batch_at w i)) _ passed ∙ first_of_later _ _ costs)
 
 module _ {w : Week} {i : ℕ} (h : Walk w i) where

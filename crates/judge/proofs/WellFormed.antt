@@ -1,20 +1,17 @@
--- A list is well formed exactly if it is orderly: what each refusal's condition is, when it does not hold, both ways.
-use Prim.Native.Nat.{ℕ, zero, suc, ◌-◌, ◌≤◌, ◌<◌}
-use native.Mathlib.Omega.{arith}
-use mathlib.Core.Path.{◌≡◌, refl, sym, ap, ◌∙◌}
+-- A list is well formed exactly if it is faultless: what each refusal's condition is, when it does not hold, both ways.
+use Prim.Native.Nat.{ℕ, suc, ◌-◌, ◌≤◌, ◌<◌}
+use mathlib.Core.Path.{◌≡◌, refl, sym, ◌∙◌}
 use mathlib.Core.Logic.Iff
 use mathlib.Core.Logic.{◌↔◌}
-use mathlib.Core.Bool.{true, not}
-use borrow.Author.Tests.{ltb-true, lt-ltb, eqb-true, eq-eqb, not-false}
+use borrow.Author.Tests.{eqb-true, eq-eqb}
 use Rattle.arrays.proofs.Each.{none_below}
 use Rattle.arrays.proofs.Tests.{lt_fails, le_fails, none_fails, zero_fails, same_fails, or_fails, and_fails}
 use Rattle.week.specs.declared.record.Batch.{Batch}
 use Rattle.week.specs.Record.{Week, max_minutes, max_batches, max_recipes, batch_at, recipe_at, number_at, span_of}
-use Rattle.week.specs.Order.{before}
 use Rattle.week.specs.Refusal.{first_of}
 use Rattle.judge.specs.BatchFault.{count_fault, due_fault, arrival_fault, cost_fault, worth_fault, own_faults}
-use Rattle.judge.specs.Fault.{minutes_faults, week_fault, number_fault, order_fault, batch_fault, list_fault, WellFormed}
-use Rattle.judge.specs.Orderly.{Fair, Orderly}
+use Rattle.judge.specs.Fault.{minutes_faults, week_fault, number_fault, batch_fault, list_fault, WellFormed}
+use Rattle.judge.specs.Faultless.{Fair, Faultless}
 use Rattle.week.proofs.First.{Proper, place_number, first_of_proper}
 use Rattle.week.proofs.Passes.{Passes, proper_passes, if_passes, first_of_passes, append_passes, first_passes, rest_passes}
 
@@ -95,37 +92,30 @@ number_passes numbers n b =
       λ each h l. (same_fails (numbers h) b.number).1 (each h l),
     )))
 
--- 10, of batch b, of index i, after batch a
-order_passes : (t i : ℕ) (a b : Batch) → Passes (order_fault t i a b) ↔ (0 < i → before t a b ≡ true)
-unfolding order_fault
-order_passes t i a b = if_passes 10 0 0 refl (and_fails _ _ (ltb-true 0 i, lt-ltb 0 i) (not-false _, ap not))
-
--- what 4 to 10 ask of the batch of index i
-record OrderlyAt (w : Week) (i : ℕ) : Type 0 where
+-- what 4 to 9 ask of the batch of index i
+record FaultlessAt (w : Week) (i : ℕ) : Type 0 where
   pub fair : Fair w.closing (batch_at w i)
   pub numbered : 1 ≤ number_at w i
   pub differ : (h : ℕ) → h < i → number_at w h ≡ number_at w i → ⊥
-  pub order : 0 < i → before w.opening (batch_at w (i - 1)) (batch_at w i) ≡ true
 
-batch_passes : (w : Week) (i : ℕ) → Passes (batch_fault w i) ↔ OrderlyAt w i
+batch_passes : (w : Week) (i : ℕ) → Passes (batch_fault w i) ↔ FaultlessAt w i
 unfolding batch_fault
 batch_passes w i =
     let own = own_passes w.closing (batch_at w i) in
     let number = number_passes (number_at w) i (batch_at w i) in
-    let order = order_passes w.opening i (batch_at w (i - 1)) (batch_at w i) in
     Iff.trans (λ z. sym (place_number _ _) ∙ z, λ z. place_number _ _ ∙ z)
     (Iff.trans (append_passes (own_faults w.closing (batch_at w i)) _) (
       λ (first, last).
-          let (new, (after, _)) = (first_of_passes _).0 last in
-          record { fair = own.0 first; numbered = (number.0 new).0; differ = (number.0 new).1; order = order.0 after },
-      λ h. (own.1 h.fair, (first_of_passes _).1 (number.1 (h.numbered, h.differ), (order.1 h.order, tt))),
+          let (new, _) = (first_of_passes _).0 last in
+          record { fair = own.0 first; numbered = (number.0 new).0; differ = (number.0 new).1 },
+      λ h. (own.1 h.fair, (first_of_passes _).1 (number.1 (h.numbered, h.differ), tt)),
     ))
 
 -- all batches together
 module _ (w : Week) where
-  each_orderly : (w.opening < w.closing) × (span_of w ≤ max_minutes) × (w.count ≤ max_batches) →
-      ((i : ℕ) → i < w.count → OrderlyAt w i) → Orderly w
-  each_orderly limits each =
+  each_faultless : (w.opening < w.closing) × (span_of w ≤ max_minutes) × (w.count ≤ max_batches) →
+      ((i : ℕ) → i < w.count → FaultlessAt w i) → Faultless w
+  each_faultless limits each =
       record {
         opens = limits.0;
         short = limits.1;
@@ -133,35 +123,29 @@ module _ (w : Week) where
         fair = λ i l. (each i l).fair;
         numbered = λ i l. (each i l).numbered;
         differ = λ h i before l. (each i l).differ h before;
-        order = λ i l. let e : suc i - 1 ≡ i = omega arith in rw e at ((each (suc i) l).order (omega arith));
       }
 
-  orderly_each : Orderly w → (i : ℕ) → i < w.count → OrderlyAt w i
-  orderly_each orderly i l =
+  faultless_each : Faultless w → (i : ℕ) → i < w.count → FaultlessAt w i
+  faultless_each faultless i l =
       record {
-        fair = orderly.fair i l;
-        numbered = orderly.numbered i l;
-        differ = λ h before. orderly.differ h i before l;
-        order = after i l;
+        fair = faultless.fair i l;
+        numbered = faultless.numbered i l;
+        differ = λ h before. faultless.differ h i before l;
       }
-    where
-      after : (i : ℕ) → i < w.count → 0 < i → before w.opening (batch_at w (i - 1)) (batch_at w i) ≡ true
-      after zero l some = absurd (omega arith)
-      after (suc i) l some = let e : suc i - 1 ≡ i = omega arith in rw e (orderly.order i l)
 
   pub list_proper : Proper (list_fault w)
   unfolding list_fault
   list_proper = first_of_proper _
 
   -- the statement
-  pub list_passes : WellFormed w ↔ Orderly w
+  pub list_passes : WellFormed w ↔ Faultless w
   unfolding list_fault
   list_passes =
       Iff.trans (proper_passes _ list_proper)
       (Iff.trans (first_of_passes _) (
         λ (week, (batches, _)).
-            each_orderly ((week_passes w).0 week) (λ i l. (batch_passes w i).0 ((first_passes (batch_fault w) w.count).0 batches i l)),
-        λ orderly.
-            let batches = (first_passes (batch_fault w) w.count).1 (λ i l. (batch_passes w i).1 (orderly_each orderly i l)) in
-            ((week_passes w).1 (orderly.opens, orderly.short, orderly.most), (batches, tt)),
+            each_faultless ((week_passes w).0 week) (λ i l. (batch_passes w i).0 ((first_passes (batch_fault w) w.count).0 batches i l)),
+        λ faultless.
+            let batches = (first_passes (batch_fault w) w.count).1 (λ i l. (batch_passes w i).1 (faultless_each faultless i l)) in
+            ((week_passes w).1 (faultless.opens, faultless.short, faultless.most), (batches, tt)),
       ))

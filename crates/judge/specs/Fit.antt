@@ -4,7 +4,7 @@ use Rattle.arrays.specs.Each.{All}
 use Rattle.week.specs.declared.record.Batch.{Batch}
 use Rattle.week.specs.Record.{max_minutes}
 use Rattle.week.specs.Numbers.{Differ}
-use Rattle.judge.specs.Orderly.{Fair}
+use Rattle.judge.specs.Faultless.{Fair}
 
 -- minutes and batches that none of 1, 2 and 4 to 9 refuses
 pub record Fit (t c : ℕ) (bs : List Batch) : Type 0 where

@@ -1,10 +1,9 @@
--- When the condition of each of 1 to 10 and of 13 holds, and where: document 01, "Who can be refused, and why". Positions and recipes are
+-- When the condition of each of 1 to 9 and of 13 holds, and where: document 01, "Who can be refused, and why". Positions and recipes are
 -- numbered from 1 here, as a refusal names them.
-use Rattle.std.specs.Prelude.{ℕ, suc, ◌-◌, ◌≤◌, ◌<◌, ◌≡◌, ◌⊎◌, false, List, [], ◌∷◌, length}
+use Rattle.std.specs.Prelude.{ℕ, suc, ◌-◌, ◌≤◌, ◌<◌, ◌≡◌, ◌⊎◌, List, [], ◌∷◌, length}
 use Rattle.arrays.specs.Position.{at_position}
 use Rattle.week.specs.declared.refusal.Refusal.{Refusal}
 use Rattle.week.specs.Record.{Week, max_minutes, max_batches, max_recipes, batch_of, recipe_of, span_of}
-use Rattle.week.specs.Order.{before}
 use Rattle.week.specs.Refusal.{refused}
 use Rattle.week.specs.RefusalOrder.{◌when◌, ◌or◌, some_of}
 
@@ -29,11 +28,7 @@ abbrev pub NumberHolds : Week → ℕ → Type 0
 NumberHolds w i =
     ((batch_of w i).number ≡ 0) ⊎ ((h : ℕ) × (1 ≤ h) × (h < i) × ((batch_of w h).number ≡ (batch_of w i).number))
 
--- "10: a batch not in order after the one before."
-abbrev pub OrderHolds : Week → ℕ → Type 0
-OrderHolds w i = (1 < i) × (before w.opening (batch_of w (i - 1)) (batch_of w i) ≡ false)
-
--- of the batch at position i: "4: a batch has no recipe, or more than 10.", "5: d is not after r. 6: r is not before c.", and 7 to 10
+-- of the batch at position i: "4: a batch has no recipe, or more than 10.", "5: d is not after r. 6: r is not before c.", and 7 to 9
 abbrev pub BatchHolds : Week → ℕ → Refusal → Type 0
 BatchHolds w i =
     (refused 4 i 0 when (((batch_of w i).count ≡ 0) ⊎ (max_recipes < (batch_of w i).count)))
@@ -42,7 +37,6 @@ BatchHolds w i =
     or some_of ((batch_of w i).count - 1) (λ k. refused 7 i (suc k) when CostHolds w i k)
     or some_of (batch_of w i).count (λ k. refused 8 i k when WorthHolds w i k)
     or (refused 9 i 0 when NumberHolds w i)
-    or (refused 10 i 0 when OrderHolds w i)
 
 -- of a list
 abbrev pub ListHolds : Week → Refusal → Type 0
@@ -56,6 +50,6 @@ abbrev pub ChoiceHolds : Week → List ℕ → Refusal → Type 0
 ChoiceHolds w choice =
     (refused 13 0 0 when (length choice ≡ w.count → ⊥)) or some_of w.count (λ i. refused 13 i 0 when NameHolds w choice i)
 
--- the numbers of a list: 1 to 10
+-- the numbers of a list: 1 to 9
 abbrev pub list_numbers : List ℕ
-list_numbers = 1 ∷ 2 ∷ 3 ∷ 4 ∷ 5 ∷ 6 ∷ 7 ∷ 8 ∷ 9 ∷ 10 ∷ []
+list_numbers = 1 ∷ 2 ∷ 3 ∷ 4 ∷ 5 ∷ 6 ∷ 7 ∷ 8 ∷ 9 ∷ []

@@ -1,5 +1,5 @@
 pub mod BatchFault
 pub mod Fault
-pub mod Orderly
+pub mod Faultless
 pub mod Fit
 pub mod Holds

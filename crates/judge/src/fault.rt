@@ -1,15 +1,15 @@
-// Refusals 1 to 10 of a list, and 13 of a choice, in document 01's order.
-ghost use Rattle.std.specs.Prelude.{◌≡◌, ◌≤◌, length};
+// Refusals 1 to 9 of a list, and 13 of a choice, in document 01's order; and a list that passes, in order.
+ghost use Rattle.std.specs.Prelude.{◌≡◌, ◌≤◌, length, IfOk};
 ghost use Rattle.week.specs.Record.{max_batches, max_recipes};
 ghost use Rattle.week.specs.Numbers.{number_in};
 ghost use Rattle.week.specs.Refusal.{first_of, first};
 ghost use Rattle.week.specs.Fault.{refusal_of};
-ghost use Rattle.judge.specs.Fault.{week_fault, number_fault, order_fault, later_faults, batch_fault, list_fault, choice_fault};
-ghost use Rattle.judge.specs.Fault.{handed_faults, last_among};
+ghost use Rattle.week.specs.Ordered.{ordered_week};
+ghost use Rattle.judge.specs.Fault.{week_fault, number_fault, later_faults, batch_fault, list_fault, choice_fault, handed_faults};
 
 use crate::batch_fault::{before_costs, worths_fault};
 use week::number::is_held;
-use week::order::stands_before;
+use week::order::in_order;
 use week::record::{Batch, Week};
 use week::refusal::{Fault, Reason};
 
@@ -41,31 +41,17 @@ fn number_fault(earlier: &[Batch], b: Batch) -> Result<(), Fault>
     Ok(())
 }
 
-// 10: not in order after the last that stands earlier.
-#[tactic(auto, unfolding(crate::specs::Fault::order_fault, week::specs::Refusal::refused_if))]
-fn order_fault(opening: u16, earlier: &[Batch], b: Batch) -> Result<(), Fault>
-    ensures { refusal_of result ≡ order_fault opening (length earlier.now) (last_among earlier.now) b }
-{
-    if let Some(a) = earlier.last()
-        && !stands_before(opening, *a, b)
-    {
-        return Err(Fault::of(Reason::OutOfOrder));
-    }
-    Ok(())
-}
-
-// 8 to 10, asked after the costs, of a batch after those that stand earlier.
+// 8 and 9, asked after the costs, of a batch after those that stand earlier.
 #[tactic(auto, using(week::proofs::Faults::in_turn))]
-fn after_costs(opening: u16, earlier: &[Batch], b: Batch) -> Result<(), Fault>
+fn after_costs(earlier: &[Batch], b: Batch) -> Result<(), Fault>
     requires { b.count ≤ max_recipes }
-    ensures { refusal_of result ≡ first_of (later_faults opening earlier.now b) }
+    ensures { refusal_of result ≡ first_of (later_faults earlier.now b) }
 {
     worths_fault(b)?;
-    number_fault(earlier, b)?;
-    order_fault(opening, earlier, b)
+    number_fault(earlier, b)
 }
 
-// 4 to 10, batch by batch, each in its place. Document 01: "Refusal 7 names the first faulty recipe of the first faulty batch", and of its
+// 4 to 9, batch by batch, each in its place. Document 01: "Refusal 7 names the first faulty recipe of the first faulty batch", and of its
 // form: "Nested loops over batches and recipes, left by a label that yields the refusal with both positions."
 fn batches_fault(week: Week) -> Result<(), Fault>
     requires { week.count ≤ max_batches }
@@ -89,7 +75,7 @@ fn batches_fault(week: Week) -> Result<(), Fault>
                     });
                 }
             }
-            if let Err(later) = after_costs(week.opening, &week.batches[..i], *b) {
+            if let Err(later) = after_costs(&week.batches[..i], *b) {
                 break 'batches Err(later.in_place(i + 1));
             }
         }
@@ -97,13 +83,15 @@ fn batches_fault(week: Week) -> Result<(), Fault>
     }
 }
 
-// 1 to 10: the first that holds of a list.
+// 1 to 9: the first that holds of a list as it is handed in; and one that passes, in order.
 #[tactic(auto, using(week::proofs::Faults::in_turn, crate::proofs::Sound::week_most), unfolding(crate::specs::Fault::list_fault))]
-pub fn accept_list(week: Week) -> Result<(), Fault>
-    ensures { refusal_of result ≡ list_fault week }
+pub fn accept_list(week: Week) -> Result<Week, Fault>
+    ensures refusal { refusal_of result ≡ list_fault week }
+    ensures list { IfOk result (λ list. list ≡ ordered_week week) }
 {
     week_fault(week)?;
-    batches_fault(week)
+    batches_fault(week)?;
+    Ok(in_order(week))
 }
 
 // 13: a choice of another length than the list, or a recipe that its batch has not got.
@@ -123,11 +111,13 @@ fn choice_fault(week: Week, choice: &[u8]) -> Result<(), Fault>
         .map_or(Ok(()), |i| Err(fault.in_place(i + 1)))
 }
 
-// 1 to 10 of a list, then 13 of the choice that is handed in with it.
+// 1 to 9 of a list, then 13 of the choice that is handed in with it, over the list in order; and that list.
 #[tactic(auto, using(week::proofs::Faults::in_turn, crate::proofs::Sound::list_most))]
-pub fn accept_handed(week: Week, choice: &[u8]) -> Result<(), Fault>
-    ensures { refusal_of result ≡ first_of (handed_faults week choice.now) }
+pub fn accept_handed(week: Week, choice: &[u8]) -> Result<Week, Fault>
+    ensures refusal { refusal_of result ≡ first_of (handed_faults week choice.now) }
+    ensures list { IfOk result (λ list. list ≡ ordered_week week) }
 {
-    accept_list(week)?;
-    choice_fault(week, choice)
+    let list = accept_list(week)?;
+    choice_fault(list, choice)?;
+    Ok(list)
 }

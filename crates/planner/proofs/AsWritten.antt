@@ -20,6 +20,7 @@ use Rattle.jobs.specs.Choice.{total}
 use Rattle.edf.specs.Workload.{ready_at, minutes_at, given_at}
 use Rattle.week.specs.declared.record.Recipe.{Recipe}
 use Rattle.week.specs.Record.{Week, max_recipes, no_recipe, batch_at, batch_of, ready_of}
+use Rattle.week.specs.Ordered.{ordered_week}
 use Rattle.judge.proofs.Sound.{Sound, Named}
 use Rattle.planner.specs.Job.{recipe_version, job_from, job_list_of, week_jobs, week_choice}
 use Rattle.planner.specs.Written.{chosen_recipe, chosen_minutes, chosen_worth}
@@ -30,15 +31,16 @@ pub recipe_minutes : (r : Recipe) → minutes_of (recipe_version r) ≡ r.cost
 recipe_minutes r =
     cond_cases (λ (minutes : Option ℕ). unwrap_or minutes 0 ≡ r.cost) (eqb r.cost 0) (λ e. sym (eqb-true r.cost 0 e)) (λ e. refl)
 
-module _ (w : Week) (sound : Sound w) where
-  pub job_written : (i : ℕ) → 1 ≤ i → i ≤ w.count → at_position no_job (job_list_of w).jobs i ≡ job_from w.opening (batch_of w i)
+module _ (w : Week) (sound : Sound (ordered_week w)) where
+  pub job_written : (i : ℕ) → 1 ≤ i → i ≤ w.count →
+      at_position no_job (job_list_of w).jobs i ≡ job_from w.opening (batch_of (ordered_week w) i)
   job_written zero low high = absurd (omega arith)
   job_written (suc i) low high = job_at_lem w sound i (omega arith)
 
-  pub ready_written : (i : ℕ) → 1 ≤ i → i ≤ w.count → ready_at (job_list_of w) i ≡ ready_of w.opening (batch_of w i)
+  pub ready_written : (i : ℕ) → 1 ≤ i → i ≤ w.count → ready_at (job_list_of w) i ≡ ready_of w.opening (batch_of (ordered_week w) i)
   ready_written i low high = ap (λ (j : Job). j.ready) (job_written i low high)
 
-  module _ {choice : List ℕ} (named : Named w choice) where
+  module _ {choice : List ℕ} (named : Named (ordered_week w) choice) where
     -- the recipe by its index is the one by its number
     pub version_written : (i : ℕ) → 1 ≤ i → i ≤ w.count →
         version_at (job_list_of w) choice i ≡ recipe_version (chosen_recipe w choice i)
@@ -48,8 +50,8 @@ module _ (w : Week) (sound : Sound w) where
         let k = get_or choice i 0 in
         let few : k ≤ max_recipes = omega (arith, named.each i below, sound.few i below) in
         ap (λ (j : Job). version_of j k) (job_at_lem w sound i below)
-        ∙ version_at_lem w.opening (batch_at w i) k (named.each i below).0 few
-        ∙ ap recipe_version (sym (position_index no_recipe (batch_at w i).recipes k (named.each i below).0))
+        ∙ version_at_lem w.opening (batch_at (ordered_week w) i) k (named.each i below).0 few
+        ∙ ap recipe_version (sym (position_index no_recipe (batch_at (ordered_week w) i).recipes k (named.each i below).0))
 
     pub minutes_written : (i : ℕ) → 1 ≤ i → i ≤ w.count → minutes_at (job_list_of w) choice i ≡ chosen_minutes w choice i
     minutes_written i low high = ap minutes_of (version_written i low high) ∙ recipe_minutes (chosen_recipe w choice i)

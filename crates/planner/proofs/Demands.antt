@@ -11,6 +11,7 @@ use mathlib.Core.List.{List, [], ◌∷◌, ◌++◌}
 use lib.ListN.{length, get_or, drop}
 use borrow.Author.Tests.{eqb-true, not-false}
 use Rattle.arrays.specs.Position.{at_position, forward}
+use Rattle.arrays.specs.Rearranged.{Perm}
 use Rattle.arrays.specs.Sum.{sum_to}
 use Rattle.arrays.proofs.Places.{length_backward, length_forward, position_beyond}
 use Rattle.jobs.specs.Model.{no_job}
@@ -27,15 +28,19 @@ use Rattle.select.proofs.Picks.{filled_size}
 use Rattle.select.proofs.Entries.{filled_entry, filled_later}
 use Rattle.select.specs.Table.{entry_at}
 use Rattle.week.specs.Record.{Week, max_batches, batch_of, recipe_of, span_of, ready_of}
+use Rattle.week.specs.Order.{InOrder}
+use Rattle.week.specs.Written.{batches_of}
+use Rattle.week.specs.Ordered.{ordered_week, Rearranged}
 use Rattle.week.specs.Refusal.{refused}
 use Rattle.week.specs.RefusalOrder.{AtFault}
 use Rattle.judge.specs.Fault.{WellFormed, WellChosen}
 use Rattle.week.proofs.First.{number_of_lem, refused_if_none, refuses_too}
 use Rattle.week.proofs.Naming.{at_fault}
 use Rattle.judge.proofs.Sound.{Sound, sound, Named, choice_passes, choice_proper, handed_passes}
+use Rattle.judge.proofs.AnyOrder.{rearranged_passes, one_order, in_order_rearranged, in_order_strict}
 use Rattle.judge.proofs.DueOrder.{position_order}
 use Rattle.week.proofs.Passes.{first_of_passes}
-use Rattle.judge.proofs.WellFormed.{list_passes, list_proper}
+use Rattle.judge.proofs.WellFormed.{list_proper}
 use Rattle.planner.specs.Job.{job_list_of, week_jobs, week_choice}
 use Rattle.planner.specs.Check.{rule_fault, check_fault, passed, refused_check, check_answer}
 use Rattle.planner.specs.Choose.{width_of, choose_fault, refused_plan, plan_of, choose_answer, table_after, plan_choice, FillsTable}
@@ -55,6 +60,7 @@ use Rattle.planner.proofs.Running.{run_refusal, run_faultless, log_kept, log_wri
 use Rattle.planner.proofs.Holding.{check_holds, check_naming, choose_holds, choose_naming, run_holds, run_naming}
 use Rattle.planner.proofs.Station.{station_log, week_in_time}
 use Rattle.planner.proofs.Outcomes.{log_says, finished}
+use Rattle.planner.proofs.AnyOrder.{same_check, same_choose, same_table, same_run, same_log}
 
 -- Demand 1: "The answer to any list of batches, in order or damaged, is either a plan or one numbered refusal, which says which batch is at
 -- fault where a batch is." 01: "The number answered is the first in this order whose condition holds, and nothing else is refused." The
@@ -105,8 +111,8 @@ module _ (w : Week) (table : List ℕ) (fills : FillsTable (choose_answer w (len
       }
 
   -- .. and "A batch arriving at or after x is never given a recipe there that needs minutes".
-  pub late_batch : (i x : ℕ) → 1 ≤ i → i ≤ w.count → w.opening ≤ x → x ≤ w.closing → x ≤ (batch_of w i).arrival →
-      (recipe_of (batch_of w i) (get_or (table_after w table) (entry_at w.opening (width_of w) i x) 0)).cost ≡ 0
+  pub late_batch : (i x : ℕ) → 1 ≤ i → i ≤ w.count → w.opening ≤ x → x ≤ w.closing → x ≤ (batch_of (ordered_week w) i).arrival →
+      (recipe_of (batch_of (ordered_week w) i) (get_or (table_after w table) (entry_at w.opening (width_of w) i x) 0)).cost ≡ 0
   late_batch i x first last from to =
       late_recipe w (sound w passed_both.0) i x _ first last (choose_fills.entry i x first last from to)
 
@@ -211,7 +217,7 @@ check_passed w choice z =
     let (list, (handed, (rule, _))) = (first_of_passes _).0 (number_of_lem (sym (check_refusal w choice)) ∙ z) in
     record {
       list = list_proper w list;
-      handed = choice_proper w choice handed;
+      handed = choice_proper (ordered_week w) choice handed;
       meeting =
           (meets_failing (week_jobs w) w.closing (week_choice w choice)).1
           (eqb-true _ _ (not-false _ (refused_if_none 15 _ 0 refl _ rule)));
@@ -243,10 +249,10 @@ module _ (w : Week) (choice log : List ℕ) (runs : (run_answer w choice (length
   all_passed : WellFormed w × WellChosen w choice × LongLog w (length log)
   all_passed = (run_faultless w choice (length log)).0 nothing_refuses
 
-  list_sound : Sound w
+  list_sound : Sound (ordered_week w)
   list_sound = sound w all_passed.0
 
-  choice_named : Named w choice
+  choice_named : Named (ordered_week w) choice
   choice_named = (choice_passes w choice).0 all_passed.1
 
   written : log_after w choice log ≡ week_log w choice ++ drop (span_of w) log
@@ -261,11 +267,11 @@ module _ (w : Week) (choice log : List ℕ) (runs : (run_answer w choice (length
   pub earliest_due : (m : ℕ) → w.opening ≤ m → m < w.closing →
       let k = get_or (log_after w choice log) (m - w.opening) 0 in
       1 ≤ k →
-      (i : ℕ) → 1 ≤ i → i ≤ w.count → ready_of w.opening (batch_of w i) ≤ m →
-      1 ≤ unread_at w choice (log_after w choice log) m i → (batch_of w k).due ≤ (batch_of w i).due
+      (i : ℕ) → 1 ≤ i → i ≤ w.count → ready_of w.opening (batch_of (ordered_week w) i) ≤ m →
+      1 ≤ unread_at w choice (log_after w choice log) m i → (batch_of (ordered_week w) k).due ≤ (batch_of (ordered_week w) i).due
   earliest_due m from to some i low high arrived unread =
       let reads = run_reads.reads m from to in
-      position_order w ((list_passes w).0 all_passed.0) _ i some (reads.first i low high arrived unread).1 high
+      position_order w all_passed.0 _ i some (reads.first i low high arrived unread).1 high
 
   -- The answer says of that log what 01 asks: each outcome, the idle minutes, the changes.
   pub run_says : LogSays w choice (log_after w choice log) (run_answer w choice (length log))
@@ -295,7 +301,7 @@ module _
     pub run_by_due : (i : ℕ) → 1 ≤ i → i ≤ w.count → 1 ≤ chosen_minutes w choice i →
         (f : ℕ)
         × (outcome_numbers (at_position set_aside (run_answer w choice (length log)).batches i) ≡ 1 ∷ f ∷ [])
-        × (f ≤ (batch_of w i).due)
+        × (f ≤ (batch_of (ordered_week w) i).due)
     run_by_due i low high some =
         let (f, is, in_time) = run_finishes i low high some in
         let written = stretch_written w (list_sound w choice log runs) (choice_named w choice log runs) i low high in
@@ -311,7 +317,7 @@ module _ (w : Week) (size : ℕ) (planned : (choose_answer w size).refusal.numbe
   plan = plan_choice w (choose_answer w size)
 
   -- .. which is well formed
-  pub choose_names : Named w plan
+  pub choose_names : Named (ordered_week w) plan
   unfolding plan_of
   choose_names =
       let some = plan_exists w size planned in
@@ -384,3 +390,35 @@ choose_over_check w size z choice e other =
     let names = handed_names w (sound w p.list) ((choice_passes w choice).0 p.handed) in
     rw (check_passes w choice p.list p.handed p.meeting, plan.summed)
     (plan.chosen.others (week_choice w choice) (names_valid names) p.meeting other)
+
+-- Document 02: "Choices, answers, tables, logs and the recipe buffer follow the ordered list": the batches of a list, none lost or doubled,
+-- each of which stands before every later one; 01: "Batches stand in order of due minute, then ready minute, then number."
+pub record Ordering (w : Week) : Type 0 where
+  pub rearranged : Perm (batches_of w) (batches_of (ordered_week w))
+  pub order : InOrder w.opening (batches_of (ordered_week w))
+
+pub ordered_list : (w : Week) → WellFormed w → Ordering w
+ordered_list w list = record { rearranged = (in_order_rearranged w list).batches; order = in_order_strict w list }
+
+-- "Two accepted lists that are rearrangements of each other get the same plan.": where one is accepted so is the other, both have one list
+-- in order, and they are checked, planned and run alike, with one table and one log.
+pub record Alike (w v : Week) : Type 0 where
+  pub list : WellFormed v
+  pub ordered : ordered_week w ≡ ordered_week v
+  pub checks : (choice : List ℕ) → check_answer w choice ≡ check_answer v choice
+  pub plans : (size : ℕ) → choose_answer w size ≡ choose_answer v size
+  pub fills : (table : List ℕ) → table_after w table ≡ table_after v table
+  pub runs : (choice : List ℕ) (size : ℕ) → run_answer w choice size ≡ run_answer v choice size
+  pub logs : (choice log : List ℕ) → log_after w choice log ≡ log_after v choice log
+
+pub rearranged_alike : {w v : Week} → Rearranged w v → WellFormed w → Alike w v
+rearranged_alike same list =
+    record {
+      list = rearranged_passes same list;
+      ordered = one_order same list;
+      checks = same_check same list;
+      plans = same_choose same list;
+      fills = same_table same list;
+      runs = same_run same list;
+      logs = same_log same list;
+    }

@@ -12,6 +12,7 @@ use Rattle.jobs.specs.Rule.{failing}
 use Rattle.jobs.proofs.BestOfAll.{best_some, best_none}
 use Rattle.week.specs.declared.refusal.Refusal.{Refusal}
 use Rattle.week.specs.Record.{Week, span_of}
+use Rattle.week.specs.Ordered.{ordered_week}
 use Rattle.week.specs.Refusal.{refused, first_of, short_fault}
 use Rattle.week.specs.RefusalOrder.{stage, FirstToHold, ◌when◌, some_of, least_place, greatest_place, Naming}
 use Rattle.week.proofs.Holding.{no_later_self, nothing_holds, when_holds, if_holds, or_holds, one_holds, append_holds, when_place, stage_ahead}
@@ -49,7 +50,7 @@ module _ (w : Week) (choice : List ℕ) where
             ]
       ]
 
-  rule_holds : Sound w → Named w choice → FirstToHold (some_of w.count BrokenAt) (rule_fault w choice)
+  rule_holds : Sound (ordered_week w) → Named (ordered_week w) choice → FirstToHold (some_of w.count BrokenAt) (rule_fault w choice)
   rule_holds fine named =
       let said = failing_written w fine named in
       elim (ℕ_discrete failed 0) [
@@ -79,7 +80,7 @@ module _ (w : Week) (choice : List ℕ) where
   check_naming r =
       ⊎_elim
       (⊎_elim (λ h. naming_after list_numbers (13 ∷ 15 ∷ []) (list_naming w 0 r h))
-      (λ h. naming_before list_numbers (13 ∷ 15 ∷ []) (naming_after (13 ∷ []) (15 ∷ []) (choice_naming w 0 choice r h))))
+      (λ h. naming_before list_numbers (13 ∷ 15 ∷ []) (naming_after (13 ∷ []) (15 ∷ []) (choice_naming (ordered_week w) 0 choice r h))))
       (λ (i, low, high, h). when_naming check_numbers w.count 0 15 i 0 refl low high (λ _. refl) r h)
 
   -- 12
@@ -96,7 +97,7 @@ module _ (w : Week) (choice : List ℕ) where
     run_naming r =
         ⊎_elim
         (⊎_elim (λ h. naming_after list_numbers (13 ∷ 12 ∷ []) (list_naming w 0 r h))
-        (λ h. naming_before list_numbers (13 ∷ 12 ∷ []) (naming_after (13 ∷ []) (12 ∷ []) (choice_naming w 0 choice r h))))
+        (λ h. naming_before list_numbers (13 ∷ 12 ∷ []) (naming_after (13 ∷ []) (12 ∷ []) (choice_naming (ordered_week w) 0 choice r h))))
         (when_naming run_numbers w.count 0 12 0 0 refl (omega arith) (omega arith) (λ _. refl) r)
 
 -- 14

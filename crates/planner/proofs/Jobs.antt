@@ -1,7 +1,7 @@
 -- The jobs of a week's list that is not refused: choices of them, and the table that has a row for each.
 use Prim.Native.Nat.{ℕ, zero, suc, ◌-◌, ◌*◌, ◌≤◌, ◌<◌}
 use native.Mathlib.Omega.{arith}
-use mathlib.Core.Path.{◌≡◌, ap}
+use mathlib.Core.Path.{◌≡◌, ap, ◌∙◌}
 use mathlib.Core.List.{List}
 use lib.ListN.{get_or, take}
 use lib.Seq.{length-take-le, get_or-take}
@@ -11,6 +11,7 @@ use Rattle.arrays.proofs.Tabulates.{tabulate_at}
 use Rattle.arrays.specs.Bits.{max16}
 use Rattle.jobs.specs.declared.model.Version.{Version}
 use Rattle.jobs.specs.declared.model.Job.{Job}
+use Rattle.jobs.specs.declared.model.JobList.{JobList}
 use Rattle.jobs.specs.Model.{max_versions, no_version, no_job, version_of}
 use Rattle.jobs.specs.Choice.{Valid, total}
 use Rattle.jobs.specs.Contract.{Names, Answerable}
@@ -20,10 +21,15 @@ use Rattle.select.specs.Word.{Packable}
 use Rattle.select.specs.Contract.{Fillable}
 use Rattle.week.specs.declared.record.Batch.{Batch}
 use Rattle.week.specs.Record.{Week, max_batches, max_recipes, batch_at}
+use Rattle.week.specs.Ordered.{ordered_week}
 use Rattle.judge.proofs.Sound.{Sound, Named}
 use Rattle.week.proofs.Owned.{WorthsFit}
-use Rattle.planner.specs.Job.{version_from, job_from, job_list_of, week_jobs, week_choice, list_choice}
+use Rattle.planner.specs.Job.{version_from, job_from, listed_jobs, job_list_of, week_jobs, week_choice, list_choice}
 use Rattle.planner.specs.Choose.{width_of}
+
+-- the jobs of a list that is in order are those of the week
+pub ordered_jobs : (w : Week) {v : Week} {jobs : JobList} → v ≡ ordered_week w → jobs ≡ listed_jobs v → jobs ≡ job_list_of w
+ordered_jobs w list is = is ∙ ap listed_jobs list
 
 -- the first bytes of an array that hold a choice hold that choice
 pub list_choice_lem : (w : Week) (bytes : List ℕ) → week_choice w (list_choice w bytes) ≡ week_choice w bytes
@@ -35,18 +41,18 @@ version_at_lem t b (suc k) low high =
     let e : suc k - 1 ≡ k = omega arith in
     rw e (tabulate_at (version_from b) max_recipes k no_version (omega arith))
 
-module _ (w : Week) (sound : Sound w) where
-  pub job_at_lem : (i : ℕ) → i < w.count → get_or (job_list_of w).jobs i no_job ≡ job_from w.opening (batch_at w i)
-  job_at_lem i l = tabulate_at (λ i. job_from w.opening (batch_at w i)) max_batches i no_job (omega (arith, sound.most))
+module _ (w : Week) (sound : Sound (ordered_week w)) where
+  pub job_at_lem : (i : ℕ) → i < w.count → get_or (job_list_of w).jobs i no_job ≡ job_from w.opening (batch_at (ordered_week w) i)
+  job_at_lem i l = tabulate_at (λ i. job_from w.opening (batch_at (ordered_week w) i)) max_batches i no_job (omega (arith, sound.most))
 
-  count_at : (i : ℕ) → i < w.count → (get_or (job_list_of w).jobs i no_job).count ≡ (batch_at w i).count
+  count_at : (i : ℕ) → i < w.count → (get_or (job_list_of w).jobs i no_job).count ≡ (batch_at (ordered_week w) i).count
   count_at i l = ap (λ (j : Job). j.count) (job_at_lem i l)
 
   few_versions : (i : ℕ) → i < w.count → (get_or (job_list_of w).jobs i no_job).count ≤ max_versions
   few_versions i l = omega (arith, count_at i l, sound.few i l)
 
   -- a choice that is handed in names a version of each job
-  pub handed_names : {choice : List ℕ} → Named w choice → Names (job_list_of w) choice
+  pub handed_names : {choice : List ℕ} → Named (ordered_week w) choice → Names (job_list_of w) choice
   handed_names named =
       record {
         most = sound.most;
@@ -56,7 +62,7 @@ module _ (w : Week) (sound : Sound w) where
       }
 
   -- and an array that names one of its versions for each job is, as far as the list goes, a choice that can be handed in
-  pub names_handed : {array : List ℕ} → Names (job_list_of w) array → Named w (take w.count array)
+  pub names_handed : {array : List ℕ} → Names (job_list_of w) array → Named (ordered_week w) (take w.count array)
   names_handed {array} names =
       record {
         whole = length-take-le w.count array names.whole;
@@ -69,13 +75,13 @@ module _ (w : Week) (sound : Sound w) where
   plan_names ks valid = valid_names (job_list_of w) ks valid sound.most few_versions
 
   -- each worth has 16 bits
-  module _ (fit : WorthsFit w) where
+  module _ (fit : WorthsFit (ordered_week w)) where
     worth_at : (i k : ℕ) → i < w.count → 1 ≤ k → k ≤ max_recipes → (version_of (get_or (job_list_of w).jobs i no_job) k).worth ≤ max16
     worth_at i k l low high =
         omega (
           arith,
           ap (λ (j : Job). (version_of j k).worth) (job_at_lem i l),
-          ap (λ (v : Version). v.worth) (version_at_lem w.opening (batch_at w i) k low high),
+          ap (λ (v : Version). v.worth) (version_at_lem w.opening (batch_at (ordered_week w) i) k low high),
           fit i (k - 1) (omega (arith, sound.most)) (omega arith),
         )
 

@@ -12,6 +12,7 @@ use Rattle.jobs.proofs.Late.{late_version}
 use Rattle.week.specs.declared.record.Recipe.{Recipe}
 use Rattle.week.specs.declared.record.Batch.{Batch}
 use Rattle.week.specs.Record.{Week, max_recipes, no_recipe, batch_at, batch_of, recipe_at, recipe_of}
+use Rattle.week.specs.Ordered.{ordered_week}
 use Rattle.judge.proofs.Sound.{Sound}
 use Rattle.planner.specs.Job.{job_from}
 use Rattle.planner.specs.Choose.{first_jobs}
@@ -32,9 +33,9 @@ late_job t b js x k says few late =
           ∙ late_version (job_from t b) js x k ks (omega arith) best.meeting
     ]
 
-pub late_recipe : (w : Week) → Sound w → (i x k : ℕ) → 1 ≤ i → i ≤ w.count → PickSays (first_jobs w i) x k →
-    x ≤ (batch_of w i).arrival → (recipe_of (batch_of w i) k).cost ≡ 0
+pub late_recipe : (w : Week) → Sound (ordered_week w) → (i x k : ℕ) → 1 ≤ i → i ≤ w.count → PickSays (first_jobs w i) x k →
+    x ≤ (batch_of (ordered_week w) i).arrival → (recipe_of (batch_of (ordered_week w) i) k).cost ≡ 0
 late_recipe w sound zero x k first last says late = absurd (omega arith)
 late_recipe w sound (suc h) x k first last says late =
-    late_job w.opening (batch_at w h) (first_jobs w h) x k (rw (job_at_lem w sound h (omega arith)) at says)
+    late_job w.opening (batch_at (ordered_week w) h) (first_jobs w h) x k (rw (job_at_lem w sound h (omega arith)) at says)
     (sound.few h (omega arith)) late

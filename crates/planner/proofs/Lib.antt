@@ -1,3 +1,4 @@
+pub mod AnyOrder
 pub mod Demands
 pub mod Mapped
 pub mod Jobs

@@ -20,6 +20,7 @@ use Rattle.edf.proofs.Workloads.{workload_outcome}
 use Rattle.edf.proofs.InTime.{stretch_in, choice_in_time}
 use Rattle.edf.proofs.Finished.{finished_by}
 use Rattle.week.specs.Record.{Week, max_batches, span_of}
+use Rattle.week.specs.Ordered.{ordered_week}
 use Rattle.judge.proofs.Sound.{Sound, Named}
 use Rattle.planner.specs.Job.{job_list_of, week_jobs, week_choice}
 use Rattle.planner.specs.Written.{chosen_minutes}
@@ -32,7 +33,7 @@ given_some : (given : Option ℕ) → 1 ≤ unwrap_or given 0 → given ≡ Some
 given_some (Some m) some = refl
 given_some None some = absurd (omega arith)
 
-module _ (w : Week) (sound : Sound w) (choice : List ℕ) (named : Named w choice) (log : List ℕ) where
+module _ (w : Week) (sound : Sound (ordered_week w)) (choice : List ℕ) (named : Named (ordered_week w) choice) (log : List ℕ) where
   -- the answer's place at position i
   place_at : (i : ℕ) → 1 ≤ i → i ≤ w.count →
       at_position set_aside (log_answer (workload_of (job_list_of w) choice) w.opening log).batches i
@@ -59,7 +60,7 @@ module _ (w : Week) (sound : Sound w) (choice : List ℕ) (named : Named w choic
       ∙ ap (λ (given : Option ℕ). outcome_of given w.opening log i)
       (given_some (given_at (job_list_of w) choice i) (omega (arith, minutes_written w sound named i low high)))
 
-module _ (w : Week) (sound : Sound w) (choice : List ℕ) (named : Named w choice) where
+module _ (w : Week) (sound : Sound (ordered_week w)) (choice : List ℕ) (named : Named (ordered_week w) choice) where
   -- the answer by the log
   abbrev answer : RunAnswer
   answer = log_answer (workload_of (job_list_of w) choice) w.opening (week_log w choice)

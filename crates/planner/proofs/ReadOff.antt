@@ -20,6 +20,7 @@ use Rattle.select.proofs.BestChoices.{choice_some}
 use Rattle.select.proofs.Picks.{filled_size}
 use Rattle.week.specs.declared.refusal.Refusal.{Refusal}
 use Rattle.week.specs.Record.{Week, max_batches}
+use Rattle.week.specs.Ordered.{ordered_week}
 use Rattle.week.specs.Refusal.{accepted}
 use Rattle.judge.proofs.Sound.{Sound}
 use Rattle.planner.specs.Job.{job_list_of, week_jobs}
@@ -27,7 +28,7 @@ use Rattle.planner.specs.Choose.{ChooseAnswer, week_best, width_of, fill_fault, 
 use Rattle.planner.proofs.Jobs.{plan_names, fillable}
 use Rattle.planner.proofs.Choosing.{plan_passed}
 
-module _ (w : Week) (sound : Sound w) (table : List ℕ) (long : w.count * width_of w ≤ length table) where
+module _ (w : Week) (sound : Sound (ordered_week w)) (table : List ℕ) (long : w.count * width_of w ≤ length table) where
   pub readable : {list : JobList} → list ≡ job_list_of w →
       {after : List ℕ} → after ≡ filled (week_jobs w) w.opening (width_of w) table →
       Readable list w.opening (width_of w) w.closing after
@@ -51,7 +52,7 @@ read_some w is =
     let found = choice_some (week_best w) is in
     record { plan = found.0; first = found.1; places = found.2 }
 
-module _ (w : Week) (sound : Sound w) {choice : List ℕ} (read : ReadOff w choice) where
+module _ (w : Week) (sound : Sound (ordered_week w)) {choice : List ℕ} (read : ReadOff w choice) where
   valid : Valid (week_jobs w) read.plan
   valid = (best_some (week_jobs w) w.closing read.plan read.first).valid
 

@@ -9,6 +9,7 @@ use lib.ListN.{length, drop}
 use Rattle.edf.specs.Workload.{workload_of}
 use Rattle.week.specs.declared.refusal.Refusal.{Refusal}
 use Rattle.week.specs.Record.{Week, max_minutes, span_of}
+use Rattle.week.specs.Ordered.{ordered_week}
 use Rattle.week.specs.Refusal.{accepted, refused, first_of}
 use Rattle.judge.specs.Fault.{handed_faults, WellFormed, WellChosen}
 use Rattle.week.proofs.First.{Proper, number_of_lem, refuses_too, first_of_proper, append_first, append_last}
@@ -51,7 +52,7 @@ module _ (w : Week) (choice : List ℕ) (size : ℕ) where
   pub run_faultless : ((run_fault w choice size).number ≡ 0) ↔ (WellFormed w × WellChosen w choice × LongLog w size)
   unfolding run_fault
   run_faultless = Iff.trans (first_of_passes _) (
-    λ (list, (names, (log, _))). (list_proper w list, choice_proper w choice names, log_proper log),
+    λ (list, (names, (log, _))). (list_proper w list, choice_proper (ordered_week w) choice names, log_proper log),
     λ (list, names, log). (number_of_lem list, (number_of_lem names, (number_of_lem log, tt))),
   )
 

@@ -17,6 +17,7 @@ use Rattle.edf.proofs.Left.{reads_log}
 use Rattle.edf.proofs.StretchEnds.{Feasible}
 use Rattle.edf.proofs.InTime.{stretch_in, choice_in_time}
 use Rattle.week.specs.Record.{Week, span_of, batch_of, ready_of}
+use Rattle.week.specs.Ordered.{ordered_week}
 use Rattle.judge.proofs.Sound.{Sound, Named}
 use Rattle.planner.specs.Job.{job_list_of, week_jobs, week_choice}
 use Rattle.planner.specs.Written.{chosen_minutes}
@@ -24,7 +25,7 @@ use Rattle.planner.specs.Run.{week_log, unread_at, StationLog, InTime}
 use Rattle.planner.proofs.AsWritten.{ready_written, minutes_written}
 
 -- a choice that meets the rule is feasible, and none of its batches is ready before the opening
-pub feasible : (w : Week) (choice : List ℕ) → Sound w → Named w choice →
+pub feasible : (w : Week) (choice : List ℕ) → Sound (ordered_week w) → Named (ordered_week w) choice →
     meets (week_jobs w) w.closing (week_choice w choice) ≡ true →
     Feasible (job_list_of w) choice (minutes_at (job_list_of w) choice) w.opening w.count w.closing
 feasible w choice sound named meeting =
@@ -51,9 +52,10 @@ module _ (w : Week) (choice log : List ℕ) where
   pub take_week : take (span_of w) after ≡ week_log w choice
   take_week = take_at (week_log w choice) (drop (span_of w) log) (span_of w) length_week
 
-  module _ (sound : Sound w) (named : Named w choice) where
+  module _ (sound : Sound (ordered_week w)) (named : Named (ordered_week w) choice) where
     reads_minute : (m : ℕ) → w.opening ≤ m → m < w.closing →
-        Reads (λ i. ready_of w.opening (batch_of w i)) (unread_at w choice after m) m w.count (get_or after (m - w.opening) 0)
+        Reads (λ i. ready_of w.opening (batch_of (ordered_week w) i)) (unread_at w choice after m) m w.count
+        (get_or after (m - w.opening) 0)
     unfolding minutes_left week_log choice_log
     reads_minute m from to =
         let d = m - w.opening in
@@ -64,7 +66,7 @@ module _ (w : Week) (choice log : List ℕ) where
         )
         (subst
         (λ (k : ℕ).
-        Reads (λ i. ready_of w.opening (batch_of w i))
+        Reads (λ i. ready_of w.opening (batch_of (ordered_week w) i))
         (minutes_left (chosen_minutes w choice) (take d (week_log w choice))) k w.count (get_or (week_log w choice) d 0))
         now
         (reads_same (ready_written w sound)

@@ -22,6 +22,7 @@ use Rattle.jobs.specs.Stretches.{no_stretch, stretches_of, stretch_at}
 use Rattle.jobs.proofs.Rules.{meets_failing}
 use Rattle.jobs.proofs.Pass.{placed_stretches}
 use Rattle.week.specs.Record.{Week, batch_of, ready_of}
+use Rattle.week.specs.Ordered.{ordered_week}
 use Rattle.judge.proofs.Sound.{Sound, Named}
 use Rattle.planner.specs.Job.{job_from, job_list_of, week_jobs, week_choice}
 use Rattle.planner.specs.Written.{chosen_minutes, chosen_worth, stretch_under, bound_after, written_stretch, FitsAt, MeetsAsWritten}
@@ -45,7 +46,7 @@ module _ (j : Job) (m worth x : ℕ) where
   asks_either true aside = (λ h some. absurd (omega (arith, eqb-true m 0 aside)), λ h. refl)
   asks_either false read = (λ h some. leb-true _ _ h, λ h. le-leb _ _ (h ((zero_fails m).0 read)))
 
-module _ (w : Week) (sound : Sound w) {choice : List ℕ} (named : Named w choice) where
+module _ (w : Week) (sound : Sound (ordered_week w)) {choice : List ℕ} (named : Named (ordered_week w) choice) where
   -- the job and the version at position i
   abbrev job_at : ℕ → Job
   job_at i = at_position no_job (job_list_of w).jobs i
@@ -59,16 +60,16 @@ module _ (w : Week) (sound : Sound w) {choice : List ℕ} (named : Named w choic
     unfolding stretch_under
     stretch_under_lem =
         ap₂ (λ (j : Job) (v : Version). stretch_of j v x) (job_written w sound i low high) (version_written w sound named i low high)
-        ∙ stretch_either (job_from w.opening (batch_of w i)) (chosen_minutes w choice i) (chosen_worth w choice i) x _
+        ∙ stretch_either (job_from w.opening (batch_of (ordered_week w) i)) (chosen_minutes w choice i) (chosen_worth w choice i) x _
 
     asks_under :
         (fits (job_at i) (chosen_at i) x ≡ true)
         ↔ (1 ≤ chosen_minutes w choice i →
-        ready_of w.opening (batch_of w i) + chosen_minutes w choice i ≤ (stretch_under w choice x i).end)
+        ready_of w.opening (batch_of (ordered_week w) i) + chosen_minutes w choice i ≤ (stretch_under w choice x i).end)
     unfolding stretch_under
     asks_under =
         rw (version_written w sound named i low high, job_written w sound i low high)
-        (asks_either (job_from w.opening (batch_of w i)) (chosen_minutes w choice i) (chosen_worth w choice i) x _ refl)
+        (asks_either (job_from w.opening (batch_of (ordered_week w) i)) (chosen_minutes w choice i) (chosen_worth w choice i) x _ refl)
 
   -- the bound under which position n + 1 stands leaves the one of position n
   bound_next : (n : ℕ) → suc n ≤ w.count →
@@ -153,6 +154,7 @@ module _ (w : Week) (sound : Sound w) {choice : List ℕ} (named : Named w choic
       (rw close_first (placed_stretches (job_list_of w).jobs choice w.closing w.count))
 
 -- the stretch of a batch that is read ends by its due minute
-pub written_by_due : (w : Week) (choice : List ℕ) (i : ℕ) → 1 ≤ chosen_minutes w choice i → (written_stretch w choice i).end ≤ (batch_of w i).due
+pub written_by_due : (w : Week) (choice : List ℕ) (i : ℕ) → 1 ≤ chosen_minutes w choice i →
+    (written_stretch w choice i).end ≤ (batch_of (ordered_week w) i).due
 unfolding stretch_under
 written_by_due w choice i some = rw ((zero_fails (chosen_minutes w choice i)).1 some) (omega arith)

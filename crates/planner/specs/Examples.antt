@@ -1,6 +1,7 @@
 -- Document 01, "Fixed examples", A to L, computed from the definitions: one table, one claim.
 use Rattle.std.specs.Prelude.{ℕ, zero, suc, ◌+◌, ◌*◌, ◌-◌, ◌≡◌, refl, true, List, [], ◌∷◌, ◌++◌, length, take, replicate}
 use Rattle.arrays.specs.Each.{some_below}
+use Rattle.arrays.specs.Position.{forward}
 use Rattle.arrays.specs.Example.{Example, ◌is◌, same, agree}
 use Rattle.jobs.specs.declared.rule.Stretch.{Stretch}
 use Rattle.jobs.specs.Rule.{stretch_of, fits, next_bound}
@@ -13,10 +14,10 @@ use Rattle.select.specs.Table.{filled}
 use Rattle.week.specs.declared.record.Recipe.{Recipe}
 use Rattle.week.specs.declared.record.Batch.{Batch}
 use Rattle.week.specs.Record.{Week, max_recipes, no_recipe, span_of}
-use Rattle.week.specs.Order.{before}
-use Rattle.week.specs.Written.{written}
+use Rattle.week.specs.Order.{before, insert_in, among, ordered}
+use Rattle.week.specs.Written.{batches_of, written}
 use Rattle.week.specs.Refusal.{refused_if, or_else, first_of, first, short_fault, unless_refused, answer_by, at_place}
-use Rattle.judge.specs.Fault.{week_fault, number_fault, order_fault, batch_fault, list_fault, name_fault, choice_fault}
+use Rattle.judge.specs.Fault.{week_fault, number_fault, batch_fault, list_fault, name_fault, choice_fault}
 use Rattle.judge.specs.BatchFault.{cost_fault, worth_fault}
 use Rattle.planner.specs.Check.{CheckAnswer, rule_fault, check_fault, passed, refused_check, check_answer}
 use Rattle.planner.specs.Choose.{ChooseAnswer, width_of, table_fault, fill_fault, choose_fault, refused_plan, plan_of, choose_answer}
@@ -77,6 +78,19 @@ week_aside =
     ∷ batch 2 8 9 (recipe 1 5 ∷ recipe 0 0 ∷ [])
     ∷ batch 3 0 10 (recipe 9 9 ∷ recipe 6 9 ∷ [])
     ∷ [])
+
+-- two batches of one due minute: both are ready at the opening, so that the number decides, whichever arrives first
+week_tie : Week
+week_tie = written 20 40 (batch 2 0 30 (recipe 5 5 ∷ recipe 0 0 ∷ []) ∷ batch 1 10 30 (recipe 8 9 ∷ []) ∷ [])
+
+-- a number that stands twice in a list: the second time it is due first
+week_twice : Week
+week_twice =
+    written 0 100 (batch 5 0 40 (recipe 1 1 ∷ []) ∷ batch 7 0 10 (recipe 1 1 ∷ []) ∷ batch 5 0 5 (recipe 1 1 ∷ []) ∷ [])
+
+-- a list with its last batch first
+turned : Week → Week
+turned w = written w.opening w.closing (forward (batches_of w))
 
 week_p : List Recipe → Week
 week_p rs = written 0 3 (batch 1 0 3 rs ∷ [])
@@ -181,14 +195,27 @@ table =
     ∷ 0 ∷ 0 ∷ 0 ∷ 0 ∷ 0 ∷ 0 ∷ 0 ∷ 0 ∷ 0 ∷ 0 ∷ 0
     ∷ 255 ∷ []))
     ∷ (picks (week_p (recipe 1 1 ∷ recipe 2 1 ∷ [])) is (255 ∷ 255 ∷ 255 ∷ 255 ∷ 255 ∷ []))
+    -- 02, "Lists in any order": W, J and others with their last batch first; a choice names the recipes of the list in order, and so does
+    -- 13; 9 names the place as handed in
+    ∷ (choose (turned week_w) is (0 ∷ 0 ∷ 0 ∷ 22 ∷ 2 ∷ 1 ∷ 1 ∷ []))
+    ∷ (check (turned week_w) (2 ∷ 1 ∷ 1 ∷ []) is (0 ∷ 0 ∷ 0 ∷ 22 ∷ 10 ∷ 20 ∷ 20 ∷ 50 ∷ 50 ∷ 100 ∷ []))
+    ∷ (check (turned week_w) (1 ∷ 1 ∷ 1 ∷ []) is (15 ∷ 1 ∷ 0 ∷ 0 ∷ 0 ∷ 0 ∷ 0 ∷ 0 ∷ 0 ∷ 0 ∷ []))
+    ∷ (run (turned week_w) (2 ∷ 1 ∷ 1 ∷ []) is (0 ∷ 0 ∷ 0 ∷ 4 ∷ 10 ∷ 1 ∷ 10 ∷ 1 ∷ 50 ∷ 1 ∷ 90 ∷ []))
+    ∷ (log (turned week_gap) (1 ∷ 1 ∷ []) is (1 ∷ 1 ∷ 0 ∷ 2 ∷ 2 ∷ 0 ∷ 0 ∷ 255 ∷ []))
+    ∷ (picks (turned week_aside) is picks week_aside)
+    ∷ (choose (turned week_j) is (14 ∷ 0 ∷ 0 ∷ 0 ∷ 0 ∷ 0 ∷ []))
+    ∷ (choose week_tie is (0 ∷ 0 ∷ 0 ∷ 9 ∷ 1 ∷ 2 ∷ []))
+    ∷ (check week_tie (2 ∷ 1 ∷ []) is (13 ∷ 1 ∷ 0 ∷ 0 ∷ 0 ∷ 0 ∷ 0 ∷ 0 ∷ []))
+    ∷ (choose week_twice is (9 ∷ 3 ∷ 0 ∷ 0 ∷ 0 ∷ 0 ∷ 0 ∷ []))
     ∷ []
 
 examples : agree table ≡ true
 unfolding
-    table same agree week_w week_e week_g week_j week_k week_late week_gap week_aside week_p stretch_of fits next_bound best
-    entries minutes_left first_pending log_of idle changes_after changes up_to_last outcome_of outcome_numbers
-    choice_log workload_of outcome_at week_log before refused_if or_else first_of first some_below at_place short_fault unless_refused answer_by
-    week_fault cost_fault worth_fault number_fault order_fault batch_fault list_fault name_fault choice_fault
+    table same agree week_w week_e week_g week_j week_k week_late week_gap week_aside week_tie week_twice turned week_p
+    stretch_of fits next_bound best entries minutes_left first_pending log_of idle changes_after changes up_to_last outcome_of
+    outcome_numbers choice_log workload_of outcome_at week_log before insert_in among ordered refused_if or_else first_of first some_below
+    at_place short_fault unless_refused answer_by
+    week_fault cost_fault worth_fault number_fault batch_fault list_fault name_fault choice_fault
     rule_fault check_fault passed refused_check check_answer table_fault fill_fault choose_fault refused_plan plan_of choose_answer filled table_after
     log_fault run_fault log_answer refused_run run_answer log_after
 examples = refl

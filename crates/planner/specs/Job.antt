@@ -8,6 +8,7 @@ use Rattle.jobs.specs.Model.{jobs_of, chosen}
 use Rattle.week.specs.declared.record.Recipe.{Recipe}
 use Rattle.week.specs.declared.record.Batch.{Batch}
 use Rattle.week.specs.Record.{Week, max_batches, max_recipes, batch_at, recipe_at, ready_of}
+use Rattle.week.specs.Ordered.{ordered_week}
 
 -- a recipe, and the recipe of index k. 01: one that costs 0 "means that the batch is set aside"
 abbrev pub recipe_version : Recipe → Version
@@ -21,9 +22,13 @@ abbrev pub job_from : ℕ → Batch → Job
 job_from t b =
     record { ready = ready_of t b; due = b.due; count = b.count; versions = tabulate (version_from b) 0 max_recipes }
 
--- a job for each place of the list, those beyond n too: the core looks at the first n
+-- a job for each place of a list as it stands, those beyond n too: the core looks at the first n
+abbrev pub listed_jobs : Week → JobList
+listed_jobs w = record { count = w.count; jobs = tabulate (λ i. job_from w.opening (batch_at w i)) 0 max_batches }
+
+-- 02: "Choices, answers, tables, logs and the recipe buffer follow the ordered list": the jobs of a week are those of its list in order
 abbrev pub job_list_of : Week → JobList
-job_list_of w = record { count = w.count; jobs = tabulate (λ i. job_from w.opening (batch_at w i)) 0 max_batches }
+job_list_of w = listed_jobs (ordered_week w)
 
 -- the jobs of a week, the last first
 abbrev pub week_jobs : Week → List Job

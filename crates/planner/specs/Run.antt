@@ -13,6 +13,7 @@ use Rattle.week.specs.declared.refusal.Fault.{Fault}
 use Rattle.week.specs.declared.refusal.Refusal.{Refusal}
 use Rattle.planner.specs.declared.run.WeekRun.{WeekRun}
 use Rattle.week.specs.Record.{Week, max_batches, batch_of, span_of, ready_of}
+use Rattle.week.specs.Ordered.{ordered_week}
 use Rattle.week.specs.Refusal.{accepted, first_of, short_fault, unless_refused, answer_by}
 use Rattle.week.specs.Fault.{numbers}
 use Rattle.judge.specs.Fault.{handed_faults}
@@ -87,7 +88,7 @@ unread_at w choice log m = minutes_left (chosen_minutes w choice) (take (m - w.o
 pub record StationLog (w : Week) (choice before after : List ℕ) : Type 0 where
   pub size : length after ≡ length before
   pub reads : (m : ℕ) → w.opening ≤ m → m < w.closing →
-      Reads (λ i. ready_of w.opening (batch_of w i)) (unread_at w choice after m) m w.count (get_or after (m - w.opening) 0)
+      Reads (λ i. ready_of w.opening (batch_of (ordered_week w) i)) (unread_at w choice after m) m w.count (get_or after (m - w.opening) 0)
   pub later : (e : ℕ) → span_of w ≤ e → get_or after e 0 ≡ get_or before e 0
 
 -- the outcome of position i after a week's log, as `outcome_numbers` has it: 0 0 set aside, 1 and the minute after its last, 2 and

@@ -28,7 +28,7 @@ fn broken_at(failing: Failing) -> Fault
 pub fn check(week: Week, choice: &[u8]) -> Result<Checked, Fault>
     ensures { checked_answer result ≡ check_answer week choice.now }
 {
-    accept_handed(week, choice)?;
+    let week = accept_handed(week, choice)?;
     let jobs = jobs_of(week);
     let stretches = stretch_all(jobs, week.closing, choice).map_err(broken_at)?;
     Ok(Checked {

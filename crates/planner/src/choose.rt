@@ -1,6 +1,7 @@
 // Choose: the recipes of greatest worth that meet the backward rule.
-ghost use Rattle.std.specs.Prelude.{◌≡◌, ◌↔◌, length};
+ghost use Rattle.std.specs.Prelude.{◌≡◌, ◌↔◌, length, IfOk};
 ghost use Rattle.judge.specs.Fault.{WellFormed};
+ghost use Rattle.week.specs.Ordered.{ordered_week};
 ghost use Rattle.week.specs.Fault.{refusal_of};
 ghost use Rattle.planner.specs.Choose.{width_of, table_fault, fill_fault, choose_answer, chosen_answer, table_after, FillsTable};
 ghost use Rattle.planner.specs.Choose.{PicksTable, BestPlan, SomePlan, NoPlan, LongTable};
@@ -43,13 +44,15 @@ pub fn table_fault(week: Week, size: usize) -> Result<(), Fault>
     Ok(())
 }
 
-// What refuses to fill a table of `size` bytes: refusals 1 to 10, then 11.
+// The list in order, or what refuses to fill a table of `size` bytes: refusals 1 to 9, then 11.
 #[tactic(auto, using(crate::proofs::Choosing::fill_list, crate::proofs::Choosing::fill_table, week::proofs::Faults::fault_refuses))]
-fn fill_fault(week: Week, size: usize) -> Result<(), Fault>
-    ensures { refusal_of result ≡ fill_fault week size }
+fn accept_filling(week: Week, size: usize) -> Result<Week, Fault>
+    ensures refusal { refusal_of result ≡ fill_fault week size }
+    ensures list { IfOk result (λ list. list ≡ ordered_week week) }
 {
-    accept_list(week)?;
-    table_fault(week, size)
+    let list = accept_list(week)?;
+    table_fault(week, size)?;
+    Ok(list)
 }
 
 // The answer and every byte of the table at exit, on every input. Then what follows from these: document 01's sentence on the
@@ -64,7 +67,7 @@ pub fn choose(week: Week, table: &mut [u8]) -> Result<Plan, Fault>
     ensures plans { ((chosen_answer result).refusal.number ≡ 0)
         ↔ (WellFormed week × LongTable week (length table.old) × SomePlan week) }
 {
-    fill_fault(week, table.len())?;
+    let week = accept_filling(week, table.len())?;
     let width = row_width(week);
     let jobs = jobs_of(week);
     fill(jobs, week.opening, width, table);

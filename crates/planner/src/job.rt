@@ -1,6 +1,6 @@
 // A week as the scheduling core sees it: the one place where a batch becomes a job.
 ghost use Rattle.std.specs.Prelude.{◌≡◌};
-ghost use Rattle.planner.specs.Job.{recipe_version, job_from, job_list_of};
+ghost use Rattle.planner.specs.Job.{recipe_version, job_from, listed_jobs};
 
 use jobs::model::{Job, JobList, Version};
 use week::record::{Batch, Recipe, Week};
@@ -26,9 +26,9 @@ fn job_of(opening: u16, b: Batch) -> Job
     }
 }
 
-// Every place of the list, the ones beyond its count too: the core looks at the first `count` alone.
+// Every place of a list as it stands, the ones beyond its count too: the core looks at the first `count` alone.
 pub fn jobs_of(week: Week) -> JobList
-    ensures { result ≡ job_list_of week }
+    ensures { result ≡ listed_jobs week }
 {
     let opening = week.opening;
     JobList {

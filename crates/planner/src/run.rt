@@ -1,9 +1,10 @@
 // Run: the station's week under a choice, minute by minute.
-ghost use Rattle.std.specs.Prelude.{◌≡◌, true, Ok, length};
+ghost use Rattle.std.specs.Prelude.{◌≡◌, true, Ok, length, IfOk};
 ghost use Rattle.jobs.specs.Rule.{meets};
 ghost use Rattle.edf.specs.Workload.{work_log};
 ghost use Rattle.edf.specs.Contract.{Runnable};
 ghost use Rattle.planner.specs.Job.{week_jobs, week_choice};
+ghost use Rattle.week.specs.Ordered.{ordered_week};
 ghost use Rattle.week.specs.Fault.{refusal_of};
 ghost use Rattle.planner.specs.Run.{run_fault, log_answer, run_answer, ran_answer, log_after, StationLog, LogSays, InTime};
 
@@ -24,16 +25,17 @@ pub struct WeekRun {
     pub batches: [Outcome; Week::MAX_BATCHES],
 }
 
-// What refuses to run a choice over a log of `size` bytes: refusals 1 to 10, then 13, then 12.
+// The list in order, or what refuses to run a choice over a log of `size` bytes: refusals 1 to 9, then 13, then 12.
 #[tactic(auto, using(crate::proofs::Running::run_refusals))]
-fn run_fault(week: Week, choice: &[u8], size: usize) -> Result<(), Fault>
-    ensures { refusal_of result ≡ run_fault week choice.now size }
+fn accept_running(week: Week, choice: &[u8], size: usize) -> Result<Week, Fault>
+    ensures refusal { refusal_of result ≡ run_fault week choice.now size }
+    ensures list { IfOk result (λ list. list ≡ ordered_week week) }
 {
-    accept_handed(week, choice)?;
+    let list = accept_handed(week, choice)?;
     if size < week.minutes() {
         return Err(Fault::of(Reason::ShortLog));
     }
-    Ok(())
+    Ok(list)
 }
 
 // What a log says of each job of a workload, and of the week.
@@ -79,7 +81,7 @@ pub fn run(week: Week, choice: &[u8], log: &mut [u8]) -> Result<WeekRun, Fault>
         → meets (week_jobs week) week.closing (week_choice week choice.now) ≡ true
         → InTime week choice.now log.new }
 {
-    run_fault(week, choice, log.len())?;
+    let week = accept_running(week, choice, log.len())?;
     let work = workload_of(jobs_of(week), choice);
     let minutes = week.minutes();
     Ok(run_work(work, week.opening, &mut log[..minutes]))

@@ -111,7 +111,7 @@ module _ (d : Draft) where
         writable.most,
       )
 
-  -- ‘the list as a sheet’: 18, 16 and 17 pass it, and what is read is the list again
+  -- ‘the list as a sheet’: 18, 16 and 17 pass it, and its lines hold the list again
   pub read_back : Sized d → (sheet_fault d).number ≡ 0 → ReadBack d (flatten (sheet_lines d))
   read_back sized passed =
       let can = writable d passed in

@@ -1,2 +1,2 @@
-// That a list which is written as a sheet is read back as the same list: definitions and laws, no function.
+// That a list written as a sheet is read back as the same list, which the reader answers in order: definitions and laws, no function.
 #![tactic(auto)]

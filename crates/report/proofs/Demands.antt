@@ -10,6 +10,7 @@ use lib.ListN.{length}
 use Rattle.edf.specs.Run.{idle, changes}
 use Rattle.week.specs.declared.refusal.Refusal.{Refusal}
 use Rattle.week.specs.Record.{Week, max_minutes}
+use Rattle.week.specs.Ordered.{ordered_week, Rearranged}
 use Rattle.week.specs.RefusalOrder.{stage, FirstToHold, least_place, greatest_place, Naming, AtFault}
 use Rattle.week.proofs.First.{number_of_lem, refuses_too, append_first, append_last}
 use Rattle.week.proofs.Holding.{one_holds, append_holds, when_place, stage_ahead}
@@ -26,14 +27,14 @@ use Rattle.sheet.specs.Read.{read_faults, read_fault, WellWritten}
 use Rattle.sheet.specs.Holds.{read_numbers}
 use Rattle.sheet.proofs.OneLine.{lines_flatten}
 use Rattle.sheet.proofs.Holding.{read_holds, read_stages, sheet_naming}
-use Rattle.sheet.proofs.Demands.{read_passes, read_refusal, read_reads}
+use Rattle.sheet.proofs.Demands.{read_passes, read_refusal, read_reads, read_any_order}
 use Rattle.text.specs.Decimal.{decimal, Numeral}
 use Rattle.text.specs.Line.{refusal_line}
 use Rattle.text.proofs.Numerals.{numeral}
 use Rattle.report.specs.Report.{batch_answer, plan_lines, week_lines, report_lines, report_of, LineSays, report_fault}
 use Rattle.report.specs.Report.{ReportHolds, report_numbers}
 use Rattle.report.proofs.Ended.{report_ones}
-use Rattle.report.proofs.Reporting.{week_refused, week_planned, planned_list, report_refused, report_read}
+use Rattle.report.proofs.Reporting.{week_refused, week_planned, planned_list, in_order_lines, report_refused, report_read}
 use Rattle.report.proofs.Said.{counts_said, line_says}
 
 -- 01, "The sheet": "Numbers are decimal." One digit or more that spell the number, the first of several not 0.
@@ -64,7 +65,7 @@ module _ (sheet : List ℕ) where
   lines_read : (read_fault sheet).number ≡ 0 → report_lines sheet ≡ week_lines w
   lines_read z =
       let none = number_of_lem (read_refusal sheet) ∙ z in
-      report_read sheet none ∙ ap week_lines (read_passes sheet none).1
+      report_read sheet none ∙ ap week_lines (read_passes sheet none).1 ∙ in_order_lines w ((read_reads sheet).0 none).list
 
   report_holds : FirstToHold (ReportHolds sheet) (report_fault sheet)
   unfolding report_fault read_fault stage
@@ -148,6 +149,16 @@ module _ (sheet : List ℕ) where
     -- station's run of the chosen plan, the minutes that each batch gets before its stretch ends number exactly its recipe's minutes",
     -- so that every batch that is read is finished by the end of its stretch.
     pub report_says : (i : ℕ) → 1 ≤ i → i ≤ w.count →
-        LineSays w choice i (batch_answer w plan (check_answer w choice) (run_answer w choice max_minutes) i)
+        LineSays w choice i (batch_answer (ordered_week w) plan (check_answer w choice) (run_answer w choice max_minutes) i)
     report_says =
         line_says w plan (planned_list w planned) (choose_names w max_picks planned) (choose_meets w max_picks planned)
+
+-- 02: "Two accepted lists that are rearrangements of each other get the same plan." "Sheets may come in any order as well.": two sheets
+-- that are well written, and whose lists are rearrangements of each other, have one report.
+pub report_any_order : (a b : List ℕ) → Rearranged (sheet_week a) (sheet_week b) → WellWritten a → WellWritten b →
+    report_of a ≡ report_of b
+report_any_order a b same written_a written_b =
+    let read_a = (read_reads a).1 written_a in
+    let read_b = (read_reads b).1 written_b in
+    ap flatten
+    (report_read a read_a ∙ ap week_lines (read_any_order a b same read_a read_b) ∙ sym (report_read b read_b))

@@ -15,6 +15,7 @@ use Rattle.edf.specs.declared.outcome.Outcome.TheVariants.{SetAside, Finished, U
 use Rattle.edf.specs.Run.{idle, changes, outcome_numbers}
 use Rattle.edf.specs.Workload.{workload_of}
 use Rattle.week.specs.Record.{Week, max_minutes}
+use Rattle.week.specs.Ordered.{ordered_week}
 use Rattle.judge.specs.Fault.{WellFormed}
 use Rattle.judge.proofs.Sound.{sound, Named, choice_passes}
 use Rattle.planner.specs.Job.{job_list_of, week_jobs, week_choice}
@@ -38,7 +39,7 @@ finish_said (Unfinished left) k f low e = let two : k ≡ 2 = cc in absurd (omeg
 
 -- of a choice that meets the rule
 module _
-    (w : Week) (plan : ChooseAnswer) (list : WellFormed w) (names : Named w (plan_choice w plan))
+    (w : Week) (plan : ChooseAnswer) (list : WellFormed w) (names : Named (ordered_week w) (plan_choice w plan))
     (meeting : meets (week_jobs w) w.closing (week_choice w (plan_choice w plan)) ≡ true)
   where
     abbrev choice : List ℕ
@@ -95,10 +96,10 @@ module _
         × (f ≤ (stretch_at (job_list_of w) choice w.closing i).end)
     by_stretch = rw ran_log (finished w (sound w list) choice names meeting)
 
-    pub line_says : (i : ℕ) → 1 ≤ i → i ≤ w.count → LineSays w choice i (batch_answer w plan (check_answer w choice) ran i)
+    pub line_says : (i : ℕ) → 1 ≤ i → i ≤ w.count → LineSays w choice i (batch_answer (ordered_week w) plan (check_answer w choice) ran i)
     unfolding batch_answer passed
     line_says i low high =
-        let line = batch_answer w plan (check_answer w choice) ran i in
+        let line = batch_answer (ordered_week w) plan (check_answer w choice) ran i in
         let cost : line.cost ≡ chosen_minutes w choice i = omega (arith, minutes_long i low high) in
         let outcome = (at_position set_aside ran.batches i) in
         record {

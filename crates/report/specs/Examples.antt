@@ -1,5 +1,5 @@
--- Case W as document 01 prints it, a list of no batches, a batch that is set aside, and refusals that name a line, a recipe and nothing,
--- computed from the definitions: one table, one claim.
+-- Case W as document 01 prints it, in order and not, a list of no batches, a batch that is set aside, and refusals that name a line, a
+-- recipe and nothing, computed from the definitions: one table, one claim.
 use Prim.Native.String.{String}
 use Rattle.std.specs.Prelude.{◌≡◌, refl, true}
 use mathlib.Core.List.{List, [], ◌∷◌, flatten}
@@ -10,9 +10,9 @@ use Rattle.jobs.specs.Rule.{stretch_of, fits, next_bound}
 use Rattle.jobs.specs.Best.{best}
 use Rattle.edf.specs.Run.{entries, minutes_left, first_pending, log_of, idle, changes_after, changes, up_to_last, outcome_of}
 use Rattle.edf.specs.Workload.{choice_log, workload_of, outcome_at}
-use Rattle.week.specs.Order.{before}
+use Rattle.week.specs.Order.{before, insert_in, among, ordered}
 use Rattle.week.specs.Refusal.{refused_if, or_else, first_of, first, short_fault, unless_refused, answer_by, at_place}
-use Rattle.judge.specs.Fault.{week_fault, number_fault, order_fault, batch_fault, list_fault, name_fault, choice_fault}
+use Rattle.judge.specs.Fault.{week_fault, number_fault, batch_fault, list_fault, name_fault, choice_fault}
 use Rattle.judge.specs.BatchFault.{cost_fault, worth_fault}
 use Rattle.planner.specs.Check.{rule_fault, check_fault, passed, refused_check, check_answer}
 use Rattle.planner.specs.Choose.{table_fault, choose_fault, refused_plan, plan_of, choose_answer}
@@ -37,6 +37,9 @@ table =
     -- case W
     ("0100000064\n0200070000002802001E0009000A0004\n0200080014003C02001E000800000000\n02000900000064020032000A00140005\n"
     gives "week 0 100\ntotal 22 changes 4 idle 10\n7 2 10 10 20 10\n8 1 30 20 50 50\n9 1 50 50 100 90\n")
+    -- and with its last batch first
+    ∷ ("0100000064\n02000900000064020032000A00140005\n0200080014003C02001E000800000000\n0200070000002802001E0009000A0004\n"
+    gives "week 0 100\ntotal 22 changes 4 idle 10\n7 2 10 10 20 10\n8 1 30 20 50 50\n9 1 50 50 100 90\n")
     -- no batches; a batch that is set aside: its stretch starts and ends at the bound, and its finish is 0
     ∷ ("010000000A\n" gives "week 0 10\ntotal 0 changes 0 idle 10\n")
     ∷ ("010000000A\n0200010000000502000B000100000000\n" gives "week 0 10\ntotal 0 changes 0 idle 10\n1 2 0 10 10 0\n")
@@ -51,8 +54,8 @@ examples : agree table ≡ true
 unfolding
     table same agree flatten stretch_of fits next_bound best
     entries minutes_left first_pending log_of idle changes_after changes up_to_last outcome_of choice_log workload_of outcome_at
-    before refused_if or_else first_of first some_below at_place short_fault unless_refused answer_by
-    week_fault cost_fault worth_fault number_fault order_fault batch_fault list_fault name_fault choice_fault
+    before insert_in among ordered refused_if or_else first_of first some_below at_place short_fault unless_refused answer_by
+    week_fault cost_fault worth_fault number_fault batch_fault list_fault name_fault choice_fault
     rule_fault check_fault passed refused_check check_answer table_fault choose_fault refused_plan plan_of choose_answer
     log_fault run_fault week_log log_answer refused_run run_answer
     is_digit digit_of byte_at word_at is_week is_batch frame_of

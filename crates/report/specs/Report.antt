@@ -10,6 +10,7 @@ use Rattle.edf.specs.declared.outcome.Outcome.TheVariants.{SetAside, Finished, U
 use Rattle.week.specs.declared.record.Batch.{Batch}
 use Rattle.week.specs.declared.refusal.Refusal.{Refusal}
 use Rattle.week.specs.Record.{Week, max_minutes, batch_of}
+use Rattle.week.specs.Ordered.{ordered_week}
 use Rattle.week.specs.Refusal.{refused, first_of, answer_by}
 use Rattle.week.specs.RefusalOrder.{◌when◌, ◌or◌}
 use Rattle.planner.specs.Job.{job_list_of}
@@ -58,9 +59,9 @@ abbrev pub lines_by : Week → ChooseAnswer → CheckAnswer → RunAnswer → Li
 lines_by w plan checked ran =
     week_line w.opening w.closing ∷ total_line plan.total ran.changes ran.idle ∷ batch_lines w plan checked ran w.count
 
--- .. as Check and Run give them
+-- .. as Check and Run give them, of the list in order
 unfoldable pub plan_lines : Week → ChooseAnswer → List (List ℕ)
-plan_lines w plan = lines_by w plan (check_answer w (plan_choice w plan)) (run_answer w (plan_choice w plan) max_minutes)
+plan_lines w plan = lines_by (ordered_week w) plan (check_answer w (plan_choice w plan)) (run_answer w (plan_choice w plan) max_minutes)
 
 -- of a refusal: one line only
 abbrev pub refusal_lines : Refusal → List (List ℕ)
@@ -82,10 +83,10 @@ report_lines sheet =
 abbrev pub report_of : List ℕ → List ℕ
 report_of sheet = flatten (report_lines sheet)
 
--- what the line of position i says: the desk's own number and minutes, the stretch that the rule gives it, and the finish that Run
--- answers, which is in time. A batch that is set aside has 0 there.
+-- what the line of position i in the list in order says: the desk's own number and minutes, the stretch that the rule gives it, and the
+-- finish that Run answers, which is in time. A batch that is set aside has 0 there.
 pub record LineSays (w : Week) (choice : List ℕ) (i : ℕ) (line : BatchLine) : Type 0 where
-  pub number : line.number ≡ (batch_of w i).number
+  pub number : line.number ≡ (batch_of (ordered_week w) i).number
   pub recipe : line.recipe ≡ at_position 0 choice i
   pub cost : line.cost ≡ chosen_minutes w choice i
   pub start : line.start ≡ (stretch_at (job_list_of w) choice w.closing i).start
@@ -95,7 +96,7 @@ pub record LineSays (w : Week) (choice : List ℕ) (i : ℕ) (line : BatchLine) 
   pub in_time : 1 ≤ line.cost → line.finish ≤ line.end
 
 -- the refusals of a report in their order: "Order: 18; then line by line 16, 17; then 1, 2, 3; then batch by batch 4 to 10 ..;
--- then 14". What 11, 12, 13 and 19 ask of a caller does not arise.
+-- then 14". 02: "10 no longer occurs". What 11, 12, 13 and 19 ask of a caller does not arise.
 unfoldable pub report_fault : List ℕ → Refusal
 report_fault sheet = first_of (read_faults sheet ++ (plan_fault (week_best (sheet_week sheet)) ∷ []))
 

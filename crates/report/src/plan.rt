@@ -1,6 +1,7 @@
 // The report of a list: its best plan, the stretches that the rule gives it, and the station's run of it.
 ghost use Rattle.std.specs.Prelude.{◌≡◌, ◌≤◌, Ok};
 ghost use mathlib.Core.List.{flatten};
+ghost use Rattle.week.specs.Ordered.{ordered_week};
 ghost use Rattle.planner.specs.Check.{checked_answer};
 ghost use Rattle.planner.specs.Choose.{chosen_answer};
 ghost use Rattle.planner.specs.Run.{ran_answer};
@@ -55,15 +56,16 @@ fn plan_text(week: Week, plan: Plan, checked: Checked, ran: WeekRun) -> Text<MAX
     // By index in three of the four arrays: a zip of all four nests three deep, and is no plainer. Nor is a function over a closure that
     // puts the parts: its bound `Fn` can name no const parameter, so that it sees the text by a trait with one impl, and it asks its
     // caller for the width and the parts that the invariant here says.
-    for (i, batch) in week.batches[..week.count].iter().enumerate() {
+    for (i, batch) in week.listed().iter().enumerate() {
         let line = line_of(*batch, plan.choice[i], checked.stretches[i], ran.batches[i]);
         batch_line(&mut text, line);
     }
     text
 }
 
-// All lines of a list's plan, or what refuses it.
+// All lines of the plan of a list in order, or what refuses it.
 pub(crate) fn week_text(week: Week) -> Result<Text<MAX_TEXT>, Fault>
+    requires { ordered_week week ≡ week }
     ensures { text_of result ≡ flatten (week_lines week) }
 {
     let plan = choose_week(week)?;

@@ -1,14 +1,19 @@
--- The list of a sheet holds 0 beyond its batches, and beyond each batch's recipes.
+-- The list of a sheet holds 0 beyond its batches, and beyond each batch's recipes, and so does it in order.
 use Prim.Native.Nat.{ℕ, zero, suc, ◌-◌, ◌<◌, min}
 use native.Mathlib.Omega.{arith}
 use mathlib.Core.Path.{◌≡◌, refl}
 use mathlib.Core.List.{List}
-use lib.ListN.{length}
+use lib.ListN.{length, length-take}
 use Rattle.arrays.specs.Made.{tabulate, padded}
 use Rattle.arrays.proofs.Tabulates.{length_tabulate, padded_each}
 use Rattle.arrays.proofs.Places.{replicate_at, position_beyond}
 use Rattle.week.specs.declared.record.Batch.{Batch}
 use Rattle.week.specs.Record.{Week, max_batches, max_recipes, no_recipe, empty_batch, no_batch, empty_week, batch_of, recipe_of}
+use Rattle.week.specs.Order.{ordered}
+use Rattle.week.specs.Written.{batches_of}
+use Rattle.week.specs.Ordered.{ordered_week}
+use Rattle.week.proofs.Ordering.{ordered-length}
+use Rattle.week.proofs.OrderedEach.{ordered_each}
 use Rattle.sheet.specs.Hex.{byte_at, word_at}
 use Rattle.sheet.specs.Line.{lines_of, line_at}
 use Rattle.sheet.specs.List.{recipe_from, batch_from, week_from, sheet_week}
@@ -66,3 +71,18 @@ sheet_beyond sheet =
     let lines = lines_of sheet in
     stored_beyond (word_at (line_at lines 0) 1) (word_at (line_at lines 0) 3) (length lines - 1) (λ i. batch_from (line_at lines (suc i)))
     (λ i. batch_zeroed (line_at lines (suc i)))
+
+-- of a list put in order
+module _ (w : Week) (h : ZeroBeyond w) where
+  ordered_zeroed : (i : ℕ) → Zeroed (batch_of (ordered_week w) i)
+  ordered_zeroed zero = none_zeroed
+  ordered_zeroed (suc i) = ordered_each Zeroed empty_zeroed none_zeroed w (λ i l. h.recipes (suc i)) i
+
+  pub ordered_beyond : ZeroBeyond (ordered_week w)
+  ordered_beyond =
+      record {
+        batches = λ i past.
+            position_beyond max_batches empty_batch (ordered w.opening (batches_of w)) i
+            (omega (arith, ordered-length w.opening (batches_of w), length-take w.count w.batches));
+        recipes = ordered_zeroed;
+      }

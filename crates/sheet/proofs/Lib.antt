@@ -12,5 +12,6 @@ pub mod Listed
 pub mod Beyond
 pub mod Reading
 pub mod WellWritten
+pub mod AnyOrder
 pub mod Holding
 pub mod Demands

@@ -4,14 +4,16 @@ use mathlib.Core.Path.{◌≡◌, refl, sym, ap, ◌∙◌}
 use mathlib.Core.List.{List}
 use lib.ListN.{length}
 use borrow.Author.Tests.{lt-ltb, le-ltb}
-use Rattle.std.specs.Prelude.{Ok, Err}
+use Rattle.std.specs.Prelude.{Result, Ok, Err, IfOk}
 use Rattle.week.specs.Record.{Week}
 use Rattle.week.specs.declared.refusal.Fault.{Fault}
 use Rattle.week.specs.declared.refusal.Refusal.{Refusal}
 use Rattle.week.specs.Refusal.{accepted, refused}
-use Rattle.week.specs.Fault.{numbers}
+use Rattle.week.specs.Fault.{numbers, refusal_of}
+use Rattle.week.specs.Ordered.{ordered_week}
 use Rattle.week.proofs.First.{number_of_lem, refuses, refuses_too, refused_if_true, refused_if_false, first_of_here, first_of_later}
 use Rattle.week.proofs.First.{first_of_last, first_of_proper}
+use Rattle.week.proofs.Faults.{fault_refuses}
 use Rattle.week.proofs.Answering.{Answers, answers, answers_name}
 use Rattle.judge.specs.Fault.{list_fault}
 use Rattle.judge.proofs.WellFormed.{list_proper}
@@ -22,7 +24,7 @@ use Rattle.sheet.specs.Read.{ReadAnswer, read_fault, refused_reading, read_answe
 
 module _ (sheet : List ℕ) where
   pub read_answers :
-      Answers (read_fault sheet) refused_reading (record { refusal = accepted; week = sheet_week sheet }) (read_answer sheet)
+      Answers (read_fault sheet) refused_reading (record { refusal = accepted; week = ordered_week (sheet_week sheet) }) (read_answer sheet)
   unfolding read_answer
   read_answers = answers _ _ _
 
@@ -54,11 +56,10 @@ module _ (sheet : List ℕ) where
       unfolding read_fault
       fault_list = first_of_later _ _ size_passed ∙ first_of_last _ _ placed (list_proper _) ∙ ap list_fault (sym is)
 
-      pub list_refused : {r : Refusal} → r ≡ list_fault w → (r.number ≡ 0 → ⊥) → read_answer sheet ≡ refused_reading r
-      list_refused e n = read_answers.refused (fault_list ∙ sym e) n
-
-      pub list_passed : list_fault w ≡ accepted → read_answer sheet ≡ record { refusal = accepted; week = w }
-      list_passed e = read_answers.passed (number_of_lem (fault_list ∙ e)) ∙ rw is
+      pub list_judged : (result : Result Week Fault) → refusal_of result ≡ list_fault w → IfOk result (λ list. list ≡ ordered_week w) →
+          answer_of result ≡ read_answer sheet
+      list_judged (Ok list) e in_order = rw (in_order, is) (sym (read_answers.passed (number_of_lem (fault_list ∙ sym e))))
+      list_judged (Err fault) e _ = sym (read_answers.refused (fault_list ∙ sym e) (fault_refuses fault))
 
 -- what the code hands back, where its answer is the reader's: what refuses, or the list
 module _ (sheet : List ℕ) where
@@ -66,7 +67,8 @@ module _ (sheet : List ℕ) where
   unfolding refused_reading
   handed_fault fault e = ap (λ (a : ReadAnswer). a.refusal) e ∙ reading_refusal sheet
 
-  pub handed_week : (week : Week) → answer_of (Ok week) ≡ read_answer sheet → ((read_fault sheet).number ≡ 0) × (week ≡ sheet_week sheet)
+  pub handed_week : (week : Week) → answer_of (Ok week) ≡ read_answer sheet →
+      ((read_fault sheet).number ≡ 0) × (week ≡ ordered_week (sheet_week sheet))
   handed_week week e =
       let none = number_of_lem (sym (ap (λ (a : ReadAnswer). a.refusal) e ∙ reading_refusal sheet)) in
       (none, ap (λ (a : ReadAnswer). a.week) (e ∙ (read_answers sheet).passed none))

@@ -1,4 +1,5 @@
--- Case W and sheets at the corners of document 01's "The sheet", computed from the definitions: one table, one claim.
+-- Case W in order and out of it, and sheets at the corners of document 01's "The sheet", computed from the definitions: one table, one
+-- claim.
 use Rattle.std.specs.Prelude.{ℕ, ◌≡◌, refl, true, take}
 use Prim.Native.String.{String}
 use mathlib.Core.List.{List, [], ◌∷◌, map, flatten}
@@ -7,9 +8,9 @@ use Rattle.arrays.specs.Example.{Example, ◌is◌, same, agree}
 use Rattle.arrays.specs.Text.{bytes}
 use Rattle.week.specs.declared.record.Recipe.{Recipe}
 use Rattle.week.specs.declared.record.Batch.{Batch}
-use Rattle.week.specs.Order.{before}
+use Rattle.week.specs.Order.{before, insert_in, among, ordered}
 use Rattle.week.specs.Refusal.{refused_if, or_else, first_of, first, unless_refused, answer_by, at_place}
-use Rattle.judge.specs.Fault.{week_fault, number_fault, order_fault, batch_fault, list_fault}
+use Rattle.judge.specs.Fault.{week_fault, number_fault, batch_fault, list_fault}
 use Rattle.judge.specs.BatchFault.{cost_fault, worth_fault}
 use Rattle.sheet.specs.Hex.{is_digit, digit_of, byte_at, word_at}
 use Rattle.sheet.specs.Frame.{is_week, is_batch, frame_of}
@@ -37,15 +38,24 @@ read sheet = numbers (read_answer (bytes sheet))
 abbrev refusal : ℕ → ℕ → List ℕ
 refusal number place = number ∷ place ∷ 0 ∷ 0 ∷ 0 ∷ 0 ∷ []
 
-table : List Example
-table =
-    -- case W
-    (read
-    "0100000064\n0200070000002802001E0009000A0004\n0200080014003C02001E000800000000\n02000900000064020032000A00140005\n"
-    is (0 ∷ 0 ∷ 0 ∷ 0 ∷ 100 ∷ 3
+case_w : List ℕ
+case_w =
+    0 ∷ 0 ∷ 0 ∷ 0 ∷ 100 ∷ 3
     ∷ 7 ∷ 0 ∷ 40 ∷ 2 ∷ 30 ∷ 9 ∷ 10 ∷ 4
     ∷ 8 ∷ 20 ∷ 60 ∷ 2 ∷ 30 ∷ 8 ∷ 0 ∷ 0
-    ∷ 9 ∷ 0 ∷ 100 ∷ 2 ∷ 50 ∷ 10 ∷ 20 ∷ 5 ∷ []))
+    ∷ 9 ∷ 0 ∷ 100 ∷ 2 ∷ 50 ∷ 10 ∷ 20 ∷ 5 ∷ []
+
+table : List Example
+table =
+    -- case W, in order and the other way round
+    (read
+    "0100000064\n0200070000002802001E0009000A0004\n0200080014003C02001E000800000000\n02000900000064020032000A00140005\n"
+    is case_w)
+    ∷ (read
+    "0100000064\n02000900000064020032000A00140005\n0200080014003C02001E000800000000\n0200070000002802001E0009000A0004\n"
+    is case_w)
+    -- batches 5, 7 and 5, due at 40, 10 and 5: the last is named, which would stand first in order
+    ∷ (read "0100000064\n020005000000280100010001\n0200070000000A0100010001\n020005000000050100010001\n" is refusal 9 3)
     -- a week alone; nothing; a line feed; a week without one
     ∷ (read "0100000064\n" is (0 ∷ 0 ∷ 0 ∷ 0 ∷ 100 ∷ 0 ∷ []))
     ∷ (read "" is refusal 17 1)
@@ -68,8 +78,9 @@ table =
 
 examples : agree table ≡ true
 unfolding
-    table same agree flatten before refused_if or_else first_of first some_below at_place unless_refused answer_by
-    week_fault cost_fault worth_fault number_fault order_fault batch_fault list_fault
+    table case_w same agree flatten before insert_in among ordered
+    refused_if or_else first_of first some_below at_place unless_refused answer_by
+    week_fault cost_fault worth_fault number_fault batch_fault list_fault
     is_digit digit_of byte_at word_at is_week is_batch frame_of
     size_fault frame_fault line_fault lines_fault batch_from week_from read_fault refused_reading read_answer
 examples = refl

@@ -31,6 +31,6 @@ abbrev pub ReadHolds : List ℕ → Refusal → Type 0
 ReadHolds sheet =
     (refused 18 0 0 when (max_bytes < length sheet)) or LinesHold (lines_of sheet) or ListHolds (sheet_week sheet)
 
--- the numbers of the reader: 16 to 18, and 1 to 10
+-- the numbers of the reader: 16 to 18, and 1 to 9
 abbrev pub read_numbers : List ℕ
 read_numbers = (18 ∷ 16 ∷ 17 ∷ []) ++ list_numbers

@@ -11,6 +11,9 @@ pub mod Before
 pub mod Ordering
 pub mod Without
 pub mod Writing
+pub mod Ordered
+pub mod OrderedEach
 pub mod Placed
+pub mod Walked
 pub mod LeftOut
 pub mod Stored

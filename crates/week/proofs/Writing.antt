@@ -1,17 +1,17 @@
--- The batches of a list, and lists freshly written: how many and how long they are, and one more put in.
-use Prim.Native.Nat.{ℕ, ◌+◌, ◌-◌, ◌≤◌, ◌<◌, min}
+-- The batches of a list, and lists freshly written: how many and how long they are, and one more.
+use Prim.Native.Nat.{ℕ, ◌+◌, ◌≤◌, ◌<◌, min}
 use native.Mathlib.Omega.{arith}
-use mathlib.Core.Path.{◌≡◌}
-use mathlib.Core.List.{List, ◌++◌}
-use lib.ListN.{length, take, drop, length-take}
-use lib.Seq.{length-take-le, take-append_seam, drop-append-add}
+use mathlib.Core.Path.{◌≡◌, refl, sym, ◌∙◌}
+use mathlib.Core.List.{List, [], ◌∷◌, ◌++◌}
+use lib.ListN.{length, take, set, length-take, length-append}
+use lib.Seq.{length-take-le, take-append_seam, append_snoc, set_split, take_at}
 use Rattle.arrays.specs.Made.{padded}
-use Rattle.arrays.proofs.Places.{length_padded, drop-replicate}
 use Rattle.week.specs.declared.record.Batch.{Batch}
 use Rattle.week.specs.Record.{Week, max_batches, empty_batch}
-use Rattle.week.specs.Order.{insert_in}
+use Rattle.week.specs.Order.{ordered}
 use Rattle.week.specs.Written.{batches_of, written}
-use Rattle.week.proofs.Ordering.{insert-length}
+use Rattle.week.specs.Ordered.{ordered_week}
+use Rattle.week.proofs.Ordering.{ordered-length}
 
 -- a list has as many batches as it counts
 pub batches_counted : (w : Week) → length w.batches ≡ max_batches → w.count ≤ max_batches → length (batches_of w) ≡ w.count
@@ -27,24 +27,20 @@ pub is_written : {t c : ℕ} {w : Week} (bs : List Batch) → w.opening ≡ t �
 is_written bs opening closing count batches = rw (← opening, ← closing, ← batches, ← count)
 
 module _ (t c : ℕ) where
-  -- the array of a freshly written list has its length
-  pub written_long : (bs : List Batch) → length bs ≤ max_batches → length (written t c bs).batches ≡ max_batches
-  written_long = length_padded max_batches empty_batch
-
-  -- and its batches are those that it is written from
+  -- the batches of a freshly written list are those that it is written from
   pub written_batches : (bs : List Batch) → batches_of (written t c bs) ≡ bs
   written_batches bs = take-append_seam bs _
 
-  -- what `insert` answers of its array is the array of the next, freshly written
-  pub written_more : (b : Batch) (bs : List Batch) (n : ℕ) → length bs ≡ n → n < max_batches →
-      let xs = (written t c bs).batches in
-      insert_in t b (take n xs) ++ drop (n + 1) xs ≡ (written t c (insert_in t b bs)).batches
-  written_more b bs n size room =
-      let left : max_batches - length bs - 1 ≡ max_batches - length (insert_in t b bs) = omega (arith, insert-length t b bs) in
-      rw (
-        ← size,
-        take-append_seam,
-        drop-append-add,
-        drop-replicate 1 (max_batches - length bs) empty_batch (omega arith),
-        left,
-      )
+-- a batch stored after those of a list is one more of them
+pub batches_more : (w : Week) (b : Batch) → length w.batches ≡ max_batches → w.count < max_batches →
+    take (w.count + 1) (set w.batches w.count b) ≡ batches_of w ++ (b ∷ [])
+batches_more w b long room =
+    let first : length (batches_of w) ≡ w.count = batches_counted w long (omega arith) in
+    rw (set_split w.batches w.count b (omega arith), ← append_snoc)
+    (take_at (batches_of w ++ (b ∷ [])) _ (w.count + 1) (omega (arith, length-append (batches_of w) (b ∷ []))))
+
+-- put in order, they are a freshly written list
+pub ordered_written : {t c : ℕ} (bs : List Batch) (w : Week) {v : Week} → v ≡ ordered_week w → w.opening ≡ t → w.closing ≡ c →
+    w.count ≡ length bs → batches_of w ≡ bs → v ≡ written t c (ordered t bs)
+ordered_written bs w is opening closing count batches =
+    rw (is, ← opening, ← closing, batches) (is_written (ordered w.opening bs) refl refl (count ∙ sym (ordered-length w.opening bs)) refl)

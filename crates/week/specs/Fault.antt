@@ -17,7 +17,6 @@ number_of reason.ArrivesTooLate = 6
 number_of reason.CostRises = 7
 number_of reason.WorthWithoutCost = 8
 number_of reason.NumberTaken = 9
-number_of reason.OutOfOrder = 10
 number_of reason.ShortTable = 11
 number_of reason.ShortLog = 12
 number_of reason.NoSuchChoice = 13

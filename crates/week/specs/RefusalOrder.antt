@@ -4,13 +4,13 @@ use mathlib.Core.List.{List, [], ◌∷◌, ◌++◌, flatten}
 use Rattle.week.specs.declared.refusal.Refusal.{Refusal}
 
 -- "Order: 18; then line by line 16, 17; then 1, 2, 3; then batch by batch 4 to 10, each batch whole before the next; then 13; 11;
--- 12; 19; then 14 or 15."
+-- 12; 19; then 14 or 15." 02: "10 no longer occurs".
 abbrev pub order : List (List ℕ)
 order =
     (18 ∷ [])
     ∷ (16 ∷ 17 ∷ [])
     ∷ (1 ∷ 2 ∷ 3 ∷ [])
-    ∷ (4 ∷ 5 ∷ 6 ∷ 7 ∷ 8 ∷ 9 ∷ 10 ∷ [])
+    ∷ (4 ∷ 5 ∷ 6 ∷ 7 ∷ 8 ∷ 9 ∷ [])
     ∷ (13 ∷ [])
     ∷ (11 ∷ [])
     ∷ (12 ∷ [])
@@ -65,7 +65,7 @@ some_of n C r = (i : ℕ) × (1 ≤ i) × (i ≤ n) × C i r
 -- "The place is the batch's position for 4 to 10, 13, 15 .., the line from 1 for 16 and 17 (1 for an empty sheet), else 0.": the least
 -- and the greatest place that a number can name, of n batches and of some lines. 13 has place 0 for a choice of the wrong length.
 abbrev pub of_batch : List ℕ
-of_batch = 4 ∷ 5 ∷ 6 ∷ 7 ∷ 8 ∷ 9 ∷ 10 ∷ 15 ∷ []
+of_batch = 4 ∷ 5 ∷ 6 ∷ 7 ∷ 8 ∷ 9 ∷ 15 ∷ []
 
 abbrev pub of_line : List ℕ
 of_line = 16 ∷ 17 ∷ []

@@ -2,21 +2,20 @@
 ghost use Rattle.std.specs.Prelude.{◌≡◌};
 ghost use Rattle.week.specs.Fault.{number_of, fault_at, place_in, AnsweredAs};
 
-// Each has its number in document 01, "Who can be refused, and why"; from 20 on in document 02.
+// Each has its number in document 01, "Who can be refused, and why"; from 20 on in document 02, which has "10 no longer occurs".
 #[derive(Clone, Copy, Debug, PartialEq, Eq)]
 pub enum Reason {
     // The week's minutes, and how many batches it has.
     ClosesTooSoon = 1,
     LastsTooLong = 2,
     TooManyBatches = 3,
-    // A batch: its recipes, its minutes, a recipe's cost and worth, its number, its place in the order.
+    // A batch: its recipes, its minutes, a recipe's cost and worth, its number.
     RecipeCount = 4,
     DueTooSoon = 5,
     ArrivesTooLate = 6,
     CostRises = 7,
     WorthWithoutCost = 8,
     NumberTaken = 9,
-    OutOfOrder = 10,
     // What a calling program hands over.
     ShortTable = 11,
     ShortLog = 12,

@@ -1,11 +1,11 @@
 // Lists freshly written from the batches of another: all of them, one more, one less; empty batches stand beyond them.
-ghost use Rattle.std.specs.Prelude.{◌<◌, ◌≡◌};
+ghost use Rattle.std.specs.Prelude.{◌<◌, ◌≡◌, [], ◌∷◌, ◌++◌};
 ghost use Rattle.week.specs.Record.{max_batches};
-ghost use Rattle.week.specs.Order.{Sorted, insert_in};
+ghost use Rattle.week.specs.Order.{ordered};
 ghost use Rattle.week.specs.Numbers.{without};
 ghost use Rattle.week.specs.Written.{batches_of, written};
 
-use crate::order::insert;
+use crate::order::in_order;
 use crate::record::{Batch, Week};
 
 // The same batches.
@@ -23,17 +23,19 @@ pub fn fresh(week: Week) -> Week
     }
 }
 
-// One more, put in order among those that stand in order.
+// One more, and all of them in order.
 pub fn with_batch(week: Week, batch: Batch) -> Week
-    requires { (week.count < max_batches) × Sorted week.opening (batches_of week) }
-    ensures { result ≡ written week.opening week.closing (insert_in week.opening batch (batches_of week)) }
+    requires { week.count < max_batches }
+    ensures { result ≡ written week.opening week.closing (ordered week.opening (batches_of week ++ (batch ∷ []))) }
 {
     let n = week.count;
-    Week {
+    let mut batches = week.batches;
+    batches[n] = batch;
+    in_order(Week {
         count: n + 1,
-        batches: insert(week.opening, batch, n, fresh(week).batches),
+        batches,
         ..week
-    }
+    })
 }
 
 // Without the batches of a number.

@@ -12,12 +12,29 @@ use draft::frames::sheet_text;
 use draft::list::list_text;
 use draft::record::{Draft, of_week, week_of, with_batch};
 use lent::shown::shown_text;
+use records::choose::choose_records;
 use std::io;
 
 impl<'a, P: Print> Desk<'a, P> {
     fn choose(&mut self) -> io::Result<()> {
         let text = choose_text(week_of(self.draft), self.table.lent_mut());
         self.answer(&text)
+    }
+
+    // `records`: ‘as `choose`, by lent records; the list written down is then as the records are left’
+    // A copy of the batches is lent and stored back: today's Rattle covers no field of `self` that is lent beside another.
+    fn records(&mut self) -> io::Result<()> {
+        let mut batches = self.draft.batches;
+        let records = batches.as_mut_slice();
+        let kept = self.draft.count.min(records.len());
+        let planned = choose_records(
+            self.draft.opening,
+            self.draft.closing,
+            &mut records[..kept],
+            self.table.lent_mut(),
+        );
+        self.draft.batches = batches;
+        self.answer(&plan_text(planned, kept))
     }
 
     fn check(&self, choice: Choice) -> io::Result<()> {
@@ -71,6 +88,7 @@ impl<'a, P: Print> Desk<'a, P> {
             Command::Table(lent) => self.table.lend(lent),
             Command::Log(lent) => self.log.lend(lent),
             Command::Choose => self.choose()?,
+            Command::Records => self.records()?,
             Command::Check(choice) => self.check(choice)?,
             Command::Run(choice) => self.run(choice)?,
             Command::ShowTable => self.show(b"table", self.table.lent())?,

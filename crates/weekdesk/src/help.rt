@@ -5,6 +5,7 @@ batch NUMBER R D COST WORTH COST WORTH ..: one batch more, arriving at R and due
 table SIZE V: a picks table of SIZE bytes, each V, or 0 where V is left out
 log SIZE V: a log of SIZE bytes, likewise
 choose: the recipes of greatest worth that meet the rule, and their total
+records: as choose, by lent records; the list is then as the records are left
 check K K ..: whether a choice meets the rule, its total and each batch's stretch
 run K K ..: the station's week under a choice, its changes, its idle minutes and what became of each batch
 show table, show log: every byte lent, in runs, as 2x20 for twenty bytes that are 2

@@ -1,5 +1,5 @@
 -- The call's answer: which refusal comes first, what is answered then, and what the table and the buffer hold.
-use Prim.Native.Nat.{ℕ, ◌*◌, ◌≤◌}
+use Prim.Native.Nat.{ℕ, suc, ◌*◌, ◌-◌, ◌≤◌, min}
 use native.Mathlib.Decide.{ℕ_discrete}
 use native.Mathlib.Omega.{arith}
 use mathlib.Core.Path.{◌≡◌, refl, sym, ap, ◌∙◌}
@@ -9,9 +9,15 @@ use mathlib.Core.List.{List, [], ◌∷◌, ◌++◌}
 use lib.ListN.{length, drop}
 use lib.IntN.{ℤ, pos}
 use Rattle.arrays.specs.Bits.{max16}
+use Rattle.arrays.specs.Made.{tabulate}
+use Rattle.arrays.proofs.Places.{length_padded}
+use Rattle.arrays.proofs.Tabulates.{length_tabulate}
 use Rattle.week.specs.declared.refusal.Refusal.{Refusal}
-use Rattle.week.specs.Record.{Week, max_batches}
+use Rattle.week.specs.Record.{Week, max_batches, empty_batch}
+use Rattle.week.specs.Ordered.{ordered_week}
 use Rattle.week.specs.Refusal.{first_of}
+use Rattle.week.proofs.Owned.{WorthsFit}
+use Rattle.week.proofs.OrderedEach.{ordered_worths}
 use Rattle.week.proofs.First.{Proper, number_of_lem, refuses_too, append_first, append_last, append_rest}
 use Rattle.week.proofs.Passes.{short_proper, first_of_passes, short_passes, append_passes}
 use Rattle.week.proofs.Answering.{Answers, answers, unless_passed, unless_refused_lem}
@@ -20,7 +26,8 @@ use Rattle.planner.specs.Choose.{plan_fault, fill_fault, week_best, plan_choice,
 use Rattle.planner.proofs.Jobs.{handed_names, total_small, list_choice_lem}
 use Rattle.planner.proofs.Demands.{choose_best, choose_names}
 use Rattle.planner.proofs.Choosing.{fill_faultless, fills_faultless, plan_fault_lem, plan_proper, table_proper}
-use Rattle.sheet.specs.List.{sheet_week}
+use Rattle.sheet.specs.Line.{lines_of, line_at}
+use Rattle.sheet.specs.List.{batch_from, week_from, sheet_week}
 use Rattle.sheet.specs.Read.{read_faults, read_fault, WellWritten}
 use Rattle.sheet.proofs.Values.{worths_small}
 use Rattle.sheet.proofs.WellWritten.{read_faultless}
@@ -107,14 +114,23 @@ module _ (sheet : List ℕ) (table_size buffer_size : ℕ) where
   unfolding call_answer
   call_answer_lem = answers _ _ _
 
-  -- a total is at most 1,048,560, each worth of a sheet having two bytes
+  -- each worth of a sheet has two bytes, in its list in order as in the list
+  ordered_small : WorthsFit (ordered_week w)
+  unfolding week_from
+  ordered_small =
+      let n = min (length (lines_of sheet) - 1) max_batches in
+      let batch = (λ (i : ℕ). batch_from (line_at (lines_of sheet) (suc i))) in
+      let few : length (tabulate batch 0 n) ≤ max_batches = omega (arith, length_tabulate batch 0 n) in
+      ordered_worths w (length_padded max_batches empty_batch (tabulate batch 0 n) few) (worths_small sheet)
+
+  -- so that a total is at most 1,048,560
   pub answer_small : call.number ≡ 0 → (choose_answer w table_size).total ≤ max_batches * max16
   answer_small z =
       let passed = call_passed z in
       let fine = sound w (keep_faultless.0 passed.0).0.list in
       let names = handed_names w fine (choose_names w table_size passed.1) in
       rw (choose_best w table_size passed.1).summed
-      (rw (list_choice_lem w (choose_answer w table_size).choice) at (total_small w fine (worths_small sheet) names))
+      (rw (list_choice_lem w (choose_answer w table_size).choice) at (total_small w fine ordered_small names))
 
   -- it is a total exactly where nothing refuses
   pub planned_passes : Planned answer ↔ (call.number ≡ 0)

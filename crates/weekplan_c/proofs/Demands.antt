@@ -14,6 +14,7 @@ use lib.Seq.{take_at}
 use Rattle.arrays.specs.Sum.{sum_to}
 use Rattle.arrays.proofs.Front.{length_kept, later_kept}
 use Rattle.week.specs.Record.{Week, max_batches}
+use Rattle.week.specs.Ordered.{Rearranged}
 use Rattle.week.specs.RefusalOrder.{one_of, AtFault}
 use Rattle.week.proofs.First.{number_of_lem}
 use Rattle.week.proofs.Naming.{at_fault}
@@ -35,6 +36,7 @@ use Rattle.weekplan_c.proofs.Holding.{call_holds, call_naming}
 use Rattle.weekplan_c.proofs.Calling.{keep_faultless, keep_fills, call_plan, call_passed}
 use Rattle.weekplan_c.proofs.Calling.{call_answer_lem, long_buffer, answer_small, planned_passes, answer_no_plan, call_no_plan}
 use Rattle.weekplan_c.proofs.Calling.{fills_keep_faultless, picks_filled, picks_kept, recipes_written, recipes_kept}
+use Rattle.weekplan_c.proofs.AnyOrder.{same_answer, same_picks, same_recipes}
 
 module _ (sheet : List ℕ) (table_size buffer_size : ℕ) where
   -- Demand 1: "The answer to any list of batches, in order or damaged, is either a plan or one numbered refusal, which says which batch is
@@ -50,7 +52,7 @@ module _ (sheet : List ℕ) (table_size buffer_size : ℕ) where
       (call_fault sheet table_size buffer_size)
   call_at_fault = at_fault (call_holds sheet table_size buffer_size) (call_naming sheet table_size buffer_size)
 
-  -- .. and which is one of 1 to 11, 14 and 16 to 19.
+  -- .. and which is one of 1 to 9, 11, 14 and 16 to 19.
   pub call_answers :
       Planned (call_answer sheet table_size buffer_size)
       ⊎ ((n : ℕ) × (one_of call_numbers n ≡ true) × (call_answer sheet table_size buffer_size ≡ minus_of n))
@@ -191,3 +193,16 @@ module _ (sheet : List ℕ) (table_size buffer_size : ℕ) where
     picks_enough (sheet_week sheet) table_size written.list picks,
     (long_buffer sheet table_size buffer_size).1 (omega (arith, (sound (sheet_week sheet) written.list).most)),
   )
+
+-- 02: "Sheets may come in any order as well. Choices, answers, tables, logs and the recipe buffer follow the ordered list": two sheets that
+-- are well written, and whose lists are rearrangements of each other, get one answer, one table and one recipe buffer.
+pub call_any_order : (a b : List ℕ) → Rearranged (sheet_week a) (sheet_week b) → WellWritten a → WellWritten b →
+    (picks recipes : List ℕ) →
+    (call_answer a (length picks) (length recipes) ≡ call_answer b (length picks) (length recipes))
+    × (picks_after a picks (length recipes) ≡ picks_after b picks (length recipes))
+    × (recipes_after a (length picks) recipes ≡ recipes_after b (length picks) recipes)
+call_any_order a b same read_a read_b picks recipes = (
+  same_answer a b same read_a read_b (length picks) (length recipes),
+  same_picks a b same read_a read_b picks recipes,
+  same_recipes a b same read_a read_b picks recipes,
+)

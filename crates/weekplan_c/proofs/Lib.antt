@@ -1,4 +1,5 @@
 pub mod Signed
 pub mod Holding
 pub mod Calling
+pub mod AnyOrder
 pub mod Demands

@@ -23,7 +23,7 @@ abbrev pub lent_faults : Week → (table_size buffer_size : ℕ) → List Refusa
 lent_faults w table_size buffer_size = table_fault w table_size ∷ buffer_fault w buffer_size ∷ []
 
 -- the refusals that keep all that is lent, in their order: "Order: 18; then line by line 16, 17; then 1, 2, 3; then batch by batch
--- 4 to 10 ..; 11; .. 19"
+-- 4 to 10 ..; 11; .. 19". 02: "10 no longer occurs"
 abbrev pub keep_faults : List ℕ → (table_size buffer_size : ℕ) → List Refusal
 keep_faults sheet table_size buffer_size = read_faults sheet ++ lent_faults (sheet_week sheet) table_size buffer_size
 

@@ -19,7 +19,7 @@ use std::process::ExitCode;
 type Contract = (&'static str, &'static str);
 
 /// The planner's operations.
-const PLANNER: [Contract; 13] = [
+const PLANNER: [Contract; 14] = [
     ("crates/planner/src/check.rt", "check"),
     ("crates/planner/src/choose.rt", "choose"),
     ("crates/planner/src/choose.rt", "table_fault"),
@@ -33,6 +33,7 @@ const PLANNER: [Contract; 13] = [
     ("crates/book/src/add.rt", "add"),
     ("crates/book/src/withdraw.rt", "withdraw"),
     ("crates/book/src/plan.rt", "plan"),
+    ("crates/records/src/choose.rt", "choose_records"),
 ];
 
 /// What weekdesk is made of: its lines and commands, what it writes down and lends, and what it answers.

@@ -35,6 +35,13 @@ impl Chance {
         self.below(times) == 0
     }
 
+    /// Any of the orders that these can stand in.
+    pub fn shuffle<T>(&mut self, items: &mut [T]) {
+        for last in (1..items.len()).rev() {
+            items.swap(self.below(last + 1), last);
+        }
+    }
+
     pub fn one_of<T: Copy>(&mut self, items: &[T]) -> T {
         items[self.below(items.len())]
     }

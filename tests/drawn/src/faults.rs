@@ -7,20 +7,19 @@ use reference::{Batch, Recipe, Week};
 pub fn put_in_one_or_two(chance: &mut Chance, week: &mut Week, refusal: usize) {
     put_in(chance, week, refusal);
     if chance.one_in(4) && !week.batches.iter().any(|batch| batch.recipes.is_empty()) {
-        let second = chance.between(1..=10);
+        let second = chance.between(1..=9);
         put_in(chance, week, second);
     }
 }
 
-/// Makes the condition of a refusal from 1 to 10 hold of a week that has a batch. Another may hold as well, and come
-/// before it; 10 needs two batches.
+/// Makes the condition of a refusal from 1 to 9 hold of a week that has a batch. Another may hold as well, and come before
+/// it.
 pub fn put_in(chance: &mut Chance, week: &mut Week, refusal: usize) {
     match refusal {
         1 => week.closing = chance.value(0..=week.opening),
         2 => long_week(chance, week),
         3 => many_batches(chance, week),
         9 => number(chance, week),
-        10 => swap(chance, week),
         _ => {
             let closing = week.closing;
             let at = chance.below(week.batches.len());
@@ -64,7 +63,7 @@ fn long_week(chance: &mut Chance, week: &mut Week) {
     };
 }
 
-/// 3: 17 batches and more, in order.
+/// 3: 17 batches and more.
 fn many_batches(chance: &mut Chance, week: &mut Week) {
     let count = Week::MAX_BATCHES + chance.between(1..=3);
     while week.batches.len() < count {
@@ -73,7 +72,6 @@ fn many_batches(chance: &mut Chance, week: &mut Week) {
         batch.number = chance.value(1..=u16::MAX);
         week.batches.push(batch);
     }
-    week.put_in_order();
 }
 
 /// 4: no recipe, or 11 and more.
@@ -106,21 +104,18 @@ fn worth_aside(chance: &mut Chance, batch: &mut Batch) {
     };
 }
 
-/// 9: number 0, or the number of another batch.
+/// 9: number 0, or the number of another batch. Of the two with one number the first in order is now and then made the last
+/// as handed in, which is the one that is refused.
 fn number(chance: &mut Chance, week: &mut Week) {
     let at = chance.below(week.batches.len());
     let other = chance.below(week.batches.len());
-    week.batches[at].number = if at == other {
-        0
-    } else {
-        week.batches[other].number
-    };
-}
-
-/// 10: two neighbours, the later first.
-fn swap(chance: &mut Chance, week: &mut Week) {
-    if week.batches.len() > 1 {
-        let at = chance.below(week.batches.len() - 1);
-        week.batches.swap(at, at + 1);
+    if at == other {
+        week.batches[at].number = 0;
+        return;
+    }
+    week.batches[at].number = week.batches[other].number;
+    let (first, last) = (at.min(other), at.max(other));
+    if chance.one_in(2) && week.order(&week.batches[first]) < week.order(&week.batches[last]) {
+        week.batches.swap(first, last);
     }
 }

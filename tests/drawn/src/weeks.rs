@@ -1,4 +1,5 @@
-//! Well-formed weeks, drawn by chance: 1 to 10 do not hold of them; whether they have a plan is left open.
+//! Well-formed weeks, drawn by chance: 1 to 9 do not hold of them; whether they have a plan is left open. Most of them are not
+//! in order.
 
 use crate::chance::Chance;
 use reference::{Batch, Recipe, Week};
@@ -48,8 +49,41 @@ pub fn week(chance: &mut Chance, shape: &Shape) -> Week {
         let batch = batch(chance, &week, &habit, number);
         week.batches.push(batch);
     }
-    week.put_in_order();
+    if chance.one_in(3) {
+        tie(chance, &mut week);
+    }
+    arrange(chance, &mut week);
     week
+}
+
+/// Some batches get the due minute and the ready minute of another, so that their numbers decide. Where that is the opening,
+/// their arrivals may differ all the same.
+fn tie(chance: &mut Chance, week: &mut Week) {
+    for _ in 1..week.batches.len() {
+        let other = &week.batches[chance.below(week.batches.len())];
+        let (mut arrival, due) = (other.arrival, other.due);
+        if arrival <= week.opening {
+            arrival = chance.value(0..=week.opening.min(due - 1));
+        }
+        let at = chance.below(week.batches.len());
+        week.batches[at].arrival = arrival;
+        week.batches[at].due = due;
+    }
+}
+
+/// In order, or with two neighbours changed about; from the last to the first; most often as chance has them.
+fn arrange(chance: &mut Chance, week: &mut Week) {
+    week.put_in_order();
+    let batches = &mut week.batches;
+    match chance.below(8) {
+        0 | 1 => {}
+        2 if batches.len() > 1 => {
+            let at = chance.below(batches.len() - 1);
+            batches.swap(at, at + 1);
+        }
+        3 => batches.reverse(),
+        _ => chance.shuffle(batches),
+    }
 }
 
 /// At the first minute that there is, at any other, or so that the close is the last one.

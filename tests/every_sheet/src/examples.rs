@@ -7,6 +7,16 @@ use reference::{write, Batch, Recipe, Week};
 /// Number, arrival, due minute, and the recipes as cost and worth.
 type Row<'a> = (u16, u16, u16, &'a [(u16, u16)]);
 
+/// Case W: the week, and its batches.
+pub const W_WEEK: &str = "0100000064\n";
+pub const W_BATCHES: [&str; 3] = [
+    "0200070000002802001E0009000A0004\n",
+    "0200080014003C02001E000800000000\n",
+    "02000900000064020032000A00140005\n",
+];
+pub const W_TEXT: &str = "week 0 100\ntotal 22 changes 4 idle 10\n\
+    7 2 10 10 20 10\n8 1 30 20 50 50\n9 1 50 50 100 90\n";
+
 pub fn compare(session: &mut Session) {
     fixed_examples(session);
     source_example(session);
@@ -15,6 +25,8 @@ pub fn compare(session: &mut Session) {
     limits(session);
     recipe_counts(session);
     batch_by_batch(session);
+    places(session);
+    any_order(session);
     last_batch(session);
     lines(session);
     weeks_as_bytes(session);
@@ -52,11 +64,8 @@ fn one_a_minute(count: u16) -> Vec<Row<'static>> {
 
 /// Document 01, "Fixed examples": A, G to L.
 fn fixed_examples(session: &mut Session) {
-    let w = "0100000064\n0200070000002802001E0009000A0004\n0200080014003C02001E000800000000\n\
-        02000900000064020032000A00140005\n";
-    let text = "week 0 100\ntotal 22 changes 4 idle 10\n\
-        7 2 10 10 20 10\n8 1 30 20 50 50\n9 1 50 50 100 90\n";
-    session.expect_plan(w.as_bytes(), 22, &[2, 1, 1], text);
+    let w = W_WEEK.to_string() + &W_BATCHES.concat();
+    session.expect_plan(w.as_bytes(), 22, &[2, 1, 1], W_TEXT);
     let g = list(0, 10, &[(1, 0, 10, &[(10, 1)])]);
     let text = "week 0 10\ntotal 1 changes 1 idle 0\n1 1 10 0 10 10\n";
     session.expect_plan(&g, 1, &[1], text);
@@ -77,7 +86,7 @@ fn fixed_examples(session: &mut Session) {
 /// Document 01, "Fixed examples": E and F.
 fn source_example(session: &mut Session) {
     let (first, third) = (falling(31), falling(22));
-    let rows: [Row; 3] = [
+    let mut rows: [Row; 3] = [
         (1, 0, 900, &first),
         (2, 0, 1010, &[(910, 10)]),
         (3, 540, 2340, &third),
@@ -87,6 +96,9 @@ fn source_example(session: &mut Session) {
     session.expect_plan(&list(0, 2340, &rows), 23, &[8, 1, 1], e);
     let f = "week 0 1000\ntotal 13 changes 3 idle 15\n\
         1 10 31 15 46 31\n2 1 910 46 956 941\n3 9 44 956 1000 985\n";
+    session.expect_plan(&list(0, 1000, &rows), 13, &[10, 1, 9], f);
+    rows.reverse();
+    session.expect_plan(&list(0, 2340, &rows), 23, &[8, 1, 1], e);
     session.expect_plan(&list(0, 1000, &rows), 13, &[10, 1, 9], f);
 }
 
@@ -111,7 +123,7 @@ fn plans(session: &mut Session) {
     let ready: [Row; 2] = [(5, 10, 30, &[(1, 1)]), (6, 5, 30, &[(1, 1)])];
     let text = "week 20 40\ntotal 2 changes 2 idle 18\n5 1 1 28 29 21\n6 1 1 29 30 22\n";
     session.expect_plan(&list(20, 40, &ready), 2, &[1, 1], text);
-    session.expect_refusal(&list(20, 40, &[ready[1], ready[0]]), [10, 2, 0]);
+    session.expect_plan(&list(20, 40, &[ready[1], ready[0]]), 2, &[1, 1], text);
 }
 
 /// A total and a sum of minutes that 16 bits could not hold, and the station idle between two batches.
@@ -134,16 +146,18 @@ fn limits(session: &mut Session) {
     let text = "week 5 2405\ntotal 0 changes 0 idle 2400\n";
     session.expect_plan(&list(5, 2405, &[]), 0, &[], text);
     session.expect_refusal(&list(5, 2406, &[]), [2, 0, 0]);
-    let rows = one_a_minute(17);
+    let mut rows = one_a_minute(17);
     let text = "week 0 17\ntotal 16 changes 16 idle 1\n\
         1 1 1 0 1 1\n2 1 1 1 2 2\n3 1 1 2 3 3\n4 1 1 3 4 4\n5 1 1 4 5 5\n6 1 1 5 6 6\n7 1 1 6 7 7\n8 1 1 7 8 8\n\
         9 1 1 8 9 9\n10 1 1 9 10 10\n11 1 1 10 11 11\n12 1 1 11 12 12\n13 1 1 12 13 13\n14 1 1 13 14 14\n\
         15 1 1 14 15 15\n16 1 1 15 16 16\n";
     session.expect_plan(&list(0, 17, &rows[..16]), 16, &[1; 16], text);
     session.expect_refusal(&list(0, 17, &rows), [3, 0, 0]);
-    let mut faulty = rows;
-    faulty[0].3 = &[];
-    session.expect_refusal(&list(0, 17, &faulty), [3, 0, 0]);
+    rows[..16].reverse();
+    session.expect_plan(&list(0, 17, &rows[..16]), 16, &[1; 16], text);
+    session.expect_refusal(&list(0, 17, &rows), [3, 0, 0]);
+    rows[0].3 = &[];
+    session.expect_refusal(&list(0, 17, &rows), [3, 0, 0]);
 }
 
 /// 10 recipes and 11, none, and as many as a byte can count; costs 30, 30.
@@ -159,10 +173,10 @@ fn recipe_counts(session: &mut Session) {
     session.expect_plan(&even, 1, &[1], text);
 }
 
-/// The order of 4 to 10, each batch whole before the next.
+/// The order of 4 to 9, each batch whole before the next.
 fn batch_by_batch(session: &mut Session) {
     let one: &[(u16, u16)] = &[(1, 1)];
-    let cases: [(&[Row], [i32; 3]); 15] = [
+    let cases: [(&[Row], [i32; 3]); 12] = [
         (&[(0, 5, 5, &[])], [4, 1, 0]),
         (&[(0, 10, 10, one)], [5, 1, 0]),
         (&[(0, 10, 11, &[(0, 1), (0, 0)])], [6, 1, 0]),
@@ -175,16 +189,53 @@ fn batch_by_batch(session: &mut Session) {
         (&[(0, 0, 5, one), (1, 0, 6, &[(1, 1), (2, 1)])], [9, 1, 0]),
         (&[(2, 0, 5, one), (1, 0, 6, &[(1, 1), (2, 1)])], [7, 2, 2]),
         (&[(5, 0, 9, one), (5, 0, 8, one)], [9, 2, 0]),
-        (
-            &[(5, 0, 8, one), (6, 0, 7, one), (5, 0, 9, one)],
-            [10, 2, 0],
-        ),
-        (&[(6, 0, 8, one), (5, 0, 8, one)], [10, 2, 0]),
-        (&[(6, 1, 8, one), (7, 0, 8, one)], [10, 2, 0]),
     ];
     for (rows, refusal) in cases {
         session.expect_refusal(&list(0, 10, rows), refusal);
     }
+}
+
+/// Document 02, Two: "9 and all desk refusals .. name the place as handed in", and are asked in that order.
+fn places(session: &mut Session) {
+    let one: &[(u16, u16)] = &[(1, 1)];
+    let cases: [(&[Row], [i32; 3]); 7] = [
+        (
+            &[(5, 0, 40, one), (7, 0, 10, one), (5, 0, 5, one)],
+            [9, 3, 0],
+        ),
+        (&[(5, 0, 8, one), (6, 0, 7, one), (5, 0, 9, one)], [9, 3, 0]),
+        (&[(5, 0, 9, one), (0, 0, 8, one)], [9, 2, 0]),
+        (&[(5, 0, 9, one), (6, 0, 8, one), (7, 0, 7, &[])], [4, 3, 0]),
+        (&[(5, 0, 9, one), (6, 0, 8, &[(1, 1), (2, 1)])], [7, 2, 2]),
+        (&[(5, 0, 9, &[(3, 1), (0, 5)]), (6, 0, 8, &[])], [8, 1, 2]),
+        (&[(5, 0, 9, one), (6, 8, 8, one), (5, 0, 7, one)], [5, 2, 0]),
+    ];
+    for (rows, refusal) in cases {
+        session.expect_refusal(&list(0, 50, rows), refusal);
+    }
+}
+
+/// Document 02, Two: "Sheets may come in any order as well." What is written follows due minute, then ready minute, then
+/// number.
+fn any_order(session: &mut Session) {
+    let one: &[(u16, u16)] = &[(1, 1)];
+    let by_number = list(0, 10, &[(6, 0, 8, one), (5, 0, 8, one)]);
+    let text = "week 0 10\ntotal 2 changes 2 idle 8\n5 1 1 6 7 1\n6 1 1 7 8 2\n";
+    session.expect_plan(&by_number, 2, &[1, 1], text);
+    let by_ready_minute = list(0, 10, &[(6, 1, 8, one), (7, 0, 8, one)]);
+    let text = "week 0 10\ntotal 2 changes 2 idle 8\n7 1 1 6 7 1\n6 1 1 7 8 2\n";
+    session.expect_plan(&by_ready_minute, 2, &[1, 1], text);
+    let rows: [Row; 2] = [(1, 4, 10, &[(3, 5)]), (2, 0, 10, &[(9, 9), (5, 2)])];
+    let text = "week 0 10\ntotal 7 changes 2 idle 2\n2 2 5 2 7 5\n1 1 3 7 10 8\n";
+    session.expect_plan(&list(0, 10, &rows), 7, &[2, 1], text);
+    let below_the_opening: [Row; 2] = [
+        (2, 5, 30, &[(4, 1), (3, 1), (0, 0)]),
+        (1, 10, 30, &[(7, 1), (0, 0)]),
+    ];
+    let text = "week 20 30\ntotal 2 changes 2 idle 0\n1 1 7 20 27 27\n2 2 3 27 30 30\n";
+    session.expect_plan(&list(20, 30, &below_the_opening), 2, &[1, 2], text);
+    let j: [Row; 2] = [(2, 0, 10, &[(5, 1)]), (1, 5, 9, &[(4, 1)])];
+    session.expect_refusal(&list(0, 10, &j), [14, 0, 0]);
 }
 
 /// A fault of the sixteenth batch, and of its tenth recipe.
@@ -193,18 +244,19 @@ fn last_batch(session: &mut Session) {
     rising_cost[9] = (2, 1);
     let mut worth_aside = [(1, 1); 10];
     worth_aside[9] = (0, 5);
-    let cases: [(Row, [i32; 3]); 7] = [
+    let cases: [(Row, [i32; 3]); 6] = [
         ((16, 0, 16, &[]), [4, 16, 0]),
         ((16, 16, 16, &[(1, 1)]), [5, 16, 0]),
         ((16, 17, 18, &[(1, 1)]), [6, 16, 0]),
         ((16, 0, 16, &rising_cost), [7, 16, 10]),
         ((16, 0, 16, &worth_aside), [8, 16, 10]),
         ((1, 0, 16, &[(1, 1)]), [9, 16, 0]),
-        ((16, 0, 14, &[(1, 1)]), [10, 16, 0]),
     ];
     for (row, refusal) in cases {
         let mut rows = one_a_minute(16);
         rows[15] = row;
+        session.expect_refusal(&list(0, 17, &rows), refusal);
+        rows[..15].reverse();
         session.expect_refusal(&list(0, 17, &rows), refusal);
     }
 }

@@ -1,14 +1,14 @@
 //! The families of sheets that are compared.
 
 use crate::session::Session;
-use crate::{corners, damage, examples, tiny};
+use crate::{corners, damage, examples, orders, tiny};
 use drawn::weeks::{week, Shape, FULL};
 use drawn::{faults, Chance};
 use reference::{write, Week};
 
 type Compare = fn(&mut Session, &mut Chance);
 
-pub const FAMILIES: [(&str, Compare); 10] = [
+pub const FAMILIES: [(&str, Compare); 11] = [
     ("examples", |session, _| {
         examples::compare(session);
         corners::compare(session);
@@ -29,18 +29,19 @@ pub const FAMILIES: [(&str, Compare); 10] = [
     ("full", |session, chance| {
         drawn(session, chance, &FULL, 4_000)
     }),
+    ("several orders", orders::compare),
     ("faulty lists", faulty),
     ("damaged sheets", damaged),
     ("sizes", sizes),
 ];
 
-const SMALL: Shape = Shape {
+pub const SMALL: Shape = Shape {
     batches: 0..=5,
     recipes: 1..=5,
     minutes: 1..=20,
 };
 
-const LARGER: Shape = Shape {
+pub const LARGER: Shape = Shape {
     batches: 0..=16,
     recipes: 1..=10,
     minutes: 15..=1_200,
@@ -67,7 +68,7 @@ fn faulty(session: &mut Session, chance: &mut Chance) {
     for i in 0..40_000 {
         let mut week = week(chance, &LIST);
         let (table, buffer) = lent(chance, &week);
-        faults::put_in_one_or_two(chance, &mut week, i % 10 + 1);
+        faults::put_in_one_or_two(chance, &mut week, i % 9 + 1);
         session.compare(&write(&week), table, buffer);
     }
 }
@@ -78,7 +79,7 @@ fn damaged(session: &mut Session, chance: &mut Chance) {
         let mut week = week(chance, &LIST);
         let (table, buffer) = lent(chance, &week);
         if chance.one_in(8) {
-            faults::put_in(chance, &mut week, i % 10 + 1);
+            faults::put_in(chance, &mut week, i % 9 + 1);
         }
         let mut sheet = write(&week);
         for _ in 0..chance.one_of(&[1, 1, 1, 2, 3]) {
@@ -101,7 +102,7 @@ fn sizes(session: &mut Session, chance: &mut Chance) {
 }
 
 /// The sizes of a table and a buffer for a week: most of them long enough.
-fn lent(chance: &mut Chance, week: &Week) -> (usize, usize) {
+pub fn lent(chance: &mut Chance, week: &Week) -> (usize, usize) {
     let table = lent_for(chance, week.entries());
     let buffer = lent_for(chance, week.batches.len());
     (table, buffer)

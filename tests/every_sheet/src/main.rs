@@ -6,6 +6,7 @@ mod damage;
 mod examples;
 mod families;
 mod judge;
+mod orders;
 mod outcome;
 mod program;
 mod session;

@@ -23,14 +23,14 @@ const REFERENCES: [(&str, Call); 3] = [
 
 const CALL: Side = Side {
     name: "the call",
-    refusals: &[1, 2, 3, 4, 5, 6, 7, 8, 9, 10, 11, 14, 16, 17, 18, 19],
+    refusals: &[1, 2, 3, 4, 5, 6, 7, 8, 9, 11, 14, 16, 17, 18, 19],
     least_sheets: 200_000,
     least_answers: 100,
 };
 
 const PROGRAM: Side = Side {
     name: "the program",
-    refusals: &[1, 2, 3, 4, 5, 6, 7, 8, 9, 10, 14, 16, 17, 18],
+    refusals: &[1, 2, 3, 4, 5, 6, 7, 8, 9, 14, 16, 17, 18],
     least_sheets: 15_000,
     least_answers: 50,
 };
@@ -86,6 +86,32 @@ impl Session {
             differs |= self.call_differs(sheet, table, buffer);
         }
         self.call.count_sheet(differs);
+    }
+
+    /// Sheets of one accepted list in several orders: besides what every sheet is held to, the call answers and leaves of each
+    /// what it does of the first, and the program writes one text.
+    pub fn compare_orders(&mut self, sheets: &[Vec<u8>], table: usize, buffer: usize) {
+        if self.call.sheets().is_multiple_of(PROGRAM_TAKES_ONE_OF) {
+            let text = self.weekplan.text(&sheets[0]).unwrap_or_default();
+            let text = String::from_utf8_lossy(&text);
+            for sheet in sheets {
+                self.compare_text(sheet, Some(&text));
+            }
+        }
+        let first = Outcome::of(call::choose, &sheets[0], table, buffer);
+        for sheet in sheets {
+            let found = Outcome::of(call::choose, sheet, table, buffer);
+            let moved = found != first;
+            if moved {
+                self.call.note(|| {
+                    let (sheet, other) = (sheet.escape_ascii(), sheets[0].escape_ascii());
+                    let (answer, byte) = (found.answer, found.first_difference(&first));
+                    format!("sheet {sheet}\nanswer {answer}\n{byte}, of the order {other}")
+                });
+            }
+            let differs = self.call_differs(sheet, table, buffer);
+            self.call.count_sheet(moved || differs);
+        }
     }
 
     /// A sheet whose plan is known, and the text of it.

@@ -75,7 +75,8 @@ pub fn any_batch(session: &mut Session) {
 }
 
 /// Two batches in the week 1 to 3: every window, and every well-formed list of at most two recipes with costs up to 3
-/// and worths up to 1; the lists of no batch and of one as well.
+/// and worths up to 1; of two that are due together each as the first of the two numbers. The lists of no batch and of one as
+/// well.
 pub fn any_two_batches(session: &mut Session) {
     let mut windows = pairs(0..=2, 1..=4);
     windows.retain(|(arrival, due)| arrival < due);
@@ -86,13 +87,18 @@ pub fn any_two_batches(session: &mut Session) {
     for &(first, of_first) in &kinds {
         compare(session, 1, 3, vec![batch(1, first, of_first)]);
         for &(second, of_second) in &kinds {
-            let batches = vec![batch(1, first, of_first), batch(2, second, of_second)];
-            compare(session, 1, 3, batches);
+            let numbered =
+                |one, other| vec![batch(one, first, of_first), batch(other, second, of_second)];
+            compare(session, 1, 3, numbered(1, 2));
+            if first.1 == second.1 {
+                compare(session, 1, 3, numbered(2, 1));
+            }
         }
     }
 }
 
-/// Three batches in the week 0 to 3, in every order, over four windows and six lists of recipes.
+/// Three batches in the week 0 to 3, in every order, their numbers rising and falling, over four windows and six lists of
+/// recipes.
 pub fn any_three_batches(session: &mut Session) {
     let windows = [(0, 1), (0, 3), (1, 2), (1, 3)];
     let lists = [
@@ -106,11 +112,12 @@ pub fn any_three_batches(session: &mut Session) {
     let kinds = kinds(&windows, &lists);
     let count = kinds.len();
     for i in 0..count.pow(3) {
-        let batches = [i / count / count, i / count % count, i % count]
-            .into_iter()
-            .zip(1..)
-            .map(|(kind, number)| batch(number, kinds[kind].0, kinds[kind].1));
-        compare(session, 0, 3, batches.collect());
+        let chosen = [i / count / count, i / count % count, i % count].map(|kind| kinds[kind]);
+        for numbers in [[1, 2, 3], [3, 2, 1]] {
+            let batches = numbers.into_iter().zip(chosen);
+            let batches = batches.map(|(number, (window, recipes))| batch(number, window, recipes));
+            compare(session, 0, 3, batches.collect());
+        }
     }
 }
 

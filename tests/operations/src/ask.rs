@@ -5,21 +5,22 @@ use crate::desk::{Desk, KEPT_BATCHES, MOST_TRIES};
 use crate::handwriting;
 use crate::script::Script;
 use drawn::Chance;
-use reference::{Batch, Outcome, Run, Week};
+use reference::{refusal_told, Batch, Outcome, Run, Week};
 
 pub fn operation(script: &mut Script, chance: &mut Chance) {
-    match chance.below(16) {
+    match chance.below(22) {
         0..=4 => drop(choose(script, &CHOOSE)),
-        5..=8 => check(script, chance),
-        9..=12 => run(script, chance),
-        13 => drop(list(script)),
-        14 => sheet(script),
+        5..=8 => records(script),
+        9..=12 => check(script, chance),
+        13..=16 => run(script, chance),
+        17 | 18 => drop(list(script)),
+        19 | 20 => sheet(script),
         _ if chance.one_in(4) => help(script),
         _ => write_down_again(script, chance),
     }
 }
 
-/// Choosing from the list or planning the book, and what is shown by it.
+/// Choosing from the list, or from its records, or planning the book, and what is shown by it.
 pub struct Choosing {
     command: &'static str,
     of: fn(&Desk) -> &Week,
@@ -42,6 +43,18 @@ pub const CHOOSE: Choosing = Choosing {
     table_after_a_refusal: "a table after a refusal",
     table_filled_on_14: "a table filled on 14",
     table_with_bytes_kept: "a table with bytes that are kept",
+};
+
+pub const RECORDS: Choosing = Choosing {
+    command: "records",
+    of: |desk| &desk.week,
+    by_every_choice: "records planned by every choice",
+    by_the_recursion: "records planned by the recursion",
+    of_a_full_week: "records planned by the recursion, a full week",
+    table: "a table of records",
+    table_after_a_refusal: "a table of records after a refusal",
+    table_filled_on_14: "a table of records filled on 14",
+    table_with_bytes_kept: "a table of records with bytes that are kept",
 };
 
 pub const PLAN: Choosing = Choosing {
@@ -99,6 +112,26 @@ impl Choosing {
     }
 }
 
+/// The plan by lent records and the table, then the records as they are left.
+fn records(script: &mut Script) {
+    let lent = script.desk.week.clone();
+    let [answer, _] = choose(script, &RECORDS);
+    script.say("list");
+    script.shows(left_by_records(&lent, &answer));
+}
+
+fn left_by_records(lent: &Week, answer: &str) -> &'static str {
+    match (refusal_told(answer), lent.is_in_order()) {
+        (0, true) => "records that came in order",
+        (0, false) => "records put in order",
+        (3, _) if lent.batches.len() > KEPT_BATCHES => "more than 64 records left",
+        (3, _) => "more than 16 records left",
+        (14, false) => "records left out of order on 14",
+        (_, false) => "records left out of order by another refusal",
+        (_, true) => "records that came in order refused",
+    }
+}
+
 fn check(script: &mut Script, chance: &mut Chance) {
     let choice = choice(chance, &script.desk.week);
     script.say(handwriting::line(chance, "check", &choice));
@@ -126,7 +159,8 @@ fn run(script: &mut Script, chance: &mut Chance) {
 
 /// Whether a batch is finished after its due minute.
 fn late(week: &Week, choice: &[u8]) -> bool {
-    let outcomes = Run::of(week, choice).outcomes();
+    let week = week.in_order();
+    let outcomes = Run::of(&week, choice).outcomes();
     let mut finished = week.batches.iter().zip(&outcomes);
     finished.any(|(batch, outcome)| {
         matches!(outcome, Outcome::Finished(minute) if *minute > usize::from(batch.due))

@@ -1,4 +1,4 @@
-//! Choices for a week: its plan, others that are well formed, and those that 13 refuses.
+//! Choices for a week, which follow its batches in order: its plan, others that are well formed, and those that 13 refuses.
 
 use crate::line::MAX_CHOICE;
 use drawn::Chance;
@@ -6,6 +6,7 @@ use reference::{Batch, Week};
 
 /// Most of them well formed, where the list is.
 pub fn choice(chance: &mut Chance, week: &Week) -> Vec<u8> {
+    let week = &week.in_order();
     let kept = &week.batches[..week.batches.len().min(MAX_CHOICE)];
     let last = |batch: &Batch| batch.recipes.len().clamp(1, 255) as u8;
     let mut any = |batch: &Batch| chance.between(1..=last(batch).into()) as u8;

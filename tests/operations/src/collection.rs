@@ -27,10 +27,8 @@ impl Collection {
         }
     }
 
-    /// The list of them, in order.
+    /// The list of them, in the order in which they came.
     pub fn freshly_written(&self) -> Option<Week> {
-        let mut week = self.0.clone()?;
-        week.put_in_order();
-        Some(week)
+        self.0.clone()
     }
 }

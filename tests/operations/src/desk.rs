@@ -64,10 +64,8 @@ impl Desk {
             Command::Batch(batch) => self.week.batches.push(batch),
             Command::Table(bytes) => self.table = bytes,
             Command::Log(bytes) => self.log = bytes,
-            Command::Choose => {
-                let best = best(&self.week);
-                return reference::choose(&self.week, &mut self.table, best).map(plan);
-            }
+            Command::Choose => return self.choose(),
+            Command::Records => return self.records(),
             Command::Check(choice) => return reference::check(&self.week, &choice).map(passed),
             Command::Run(choice) => {
                 return reference::run(&self.week, &choice, &mut self.log).map(|run| ran(&run))
@@ -79,15 +77,28 @@ impl Desk {
             Command::Open { opening, closing } => return self.book.open(opening, closing).map(ok),
             Command::Add(batch) => return self.book.add(batch).map(ok),
             Command::Withdraw(number) => return self.book.withdraw(number).map(ok),
-            Command::Plan => {
-                let best = best(&self.book.list);
-                return self.book.plan(&mut self.table, best).map(plan);
-            }
+            Command::Plan => return self.plan(),
             Command::Book => return Ok(list(&self.book.list)),
             Command::Hold => self.book.list = by_value(&self.week),
             Command::Help => return Ok(self.help.clone()),
         }
         Ok(String::new())
+    }
+
+    fn choose(&mut self) -> Result<String, Refused> {
+        let best = best(&self.week);
+        reference::choose(&self.week, &mut self.table, best).map(plan)
+    }
+
+    /// All batches that are kept are lent as records: where more were written, more than sixteen are lent, and 3 is answered.
+    fn records(&mut self) -> Result<String, Refused> {
+        let best = best(&self.week);
+        reference::records(&mut self.week, &mut self.table, best).map(plan)
+    }
+
+    fn plan(&mut self) -> Result<String, Refused> {
+        let best = best(&self.book.list);
+        self.book.plan(&mut self.table, best).map(plan)
     }
 
     /// "the list's own refusal 3 or 4 if it cannot be written": a list without a fault of these two, but for a batch
@@ -141,7 +152,7 @@ fn line(word: &str, rest: impl Iterator<Item = String>) -> String {
     line + "\n"
 }
 
-fn plan(plan: Plan) -> String {
+pub fn plan(plan: Plan) -> String {
     let recipes = plan.recipes.iter().map(u8::to_string);
     format!("plan {}\n{}", plan.total, line("recipes", recipes))
 }
@@ -295,9 +306,9 @@ mod tests {
     /// The held list is refused as Choose would refuse it, by every call but an opening, and stays as it stands.
     #[test]
     fn held_lists() {
-        let said = "week 0 30\nbatch 2 0 20 1 1\nbatch 1 0 10 1 1\nhold\nadd 1 0 20\nwithdraw 0\nplan\nbook\nopen 0 5\nbook\n";
-        let right = "refused 10 2 0\nrefused 10 2 0\nrefused 10 2 0\n\
-            week 0 30\nbatch 2 0 20 1 1\nbatch 1 0 10 1 1\nok\nweek 0 5\n";
+        let said = "week 0 30\nbatch 2 0 20 1 1\nbatch 2 0 10 1 1\nhold\nadd 1 0 20\nwithdraw 0\nplan\nbook\nopen 0 5\nbook\n";
+        let right = "refused 9 2 0\nrefused 9 2 0\nrefused 9 2 0\n\
+            week 0 30\nbatch 2 0 20 1 1\nbatch 2 0 10 1 1\nok\nweek 0 5\n";
         assert_eq!(answers(said), right);
         let batches = |count: usize| "batch 7 0 10 1 1\n".repeat(count);
         let empty = |count: usize| "batch 0 0 0\n".repeat(count);
@@ -310,6 +321,72 @@ mod tests {
             );
             assert_eq!(answers(&said), right);
         }
+    }
+
+    /// Document 02, Two: a held list may stand in any order. A refused call, 14 too, leaves it so, and each accepted call hands
+    /// the book back in order.
+    #[test]
+    fn held_in_any_order() {
+        let list = "week 0 30\nbatch 2 0 20 1 1\nbatch 1 0 10 1 1\n";
+        let said = format!(
+            "{list}hold\nadd 1 0 20\nwithdraw 0\ntable 61\nplan\nbook\ntable 62\nplan\nbook\n"
+        );
+        let refused = format!("refused 4 0 0\nrefused 21 0 0\nrefused 11 0 0\n{list}");
+        let right =
+            "plan 2\nrecipes 1 1\nweek 0 30\nbatch 1 0 10 1 1\nbatch 2 0 20 1 1\n".to_string();
+        assert_eq!(answers(&said), refused + &right);
+        let said = format!(
+            "{list}hold\nadd 3 0 15 1 1\nbook\n{list}batch 3 0 15 1 1\nhold\nwithdraw 2\nbook\n"
+        );
+        let right = "ok\nweek 0 30\nbatch 1 0 10 1 1\nbatch 3 0 15 1 1\nbatch 2 0 20 1 1\n\
+            ok\nweek 0 30\nbatch 1 0 10 1 1\nbatch 3 0 15 1 1\n";
+        assert_eq!(answers(&said), right);
+        let j = "week 0 10\nbatch 2 0 10 5 1\nbatch 1 5 9 4 1\n";
+        let right = format!("refused 14 0 0\n{j}");
+        assert_eq!(answers(&format!("{j}hold\nplan\nbook\n")), right);
+    }
+
+    /// Document 02, Two, by records: case W from its last batch to its first. Choosing from the list leaves it as it stands.
+    #[test]
+    fn case_w_as_records() {
+        let w = "week 0 100\nbatch 7 0 40 30 9 10 4\nbatch 8 20 60 30 8 0 0\nbatch 9 0 100 50 10 20 5\n";
+        let reversed = "week 0 100\nbatch 9 0 100 50 10 20 5\nbatch 8 20 60 30 8 0 0\nbatch 7 0 40 30 9 10 4\n";
+        let said = format!("{reversed}choose\ncheck 2 1 1\ncheck 1 1 1\nlist\nrecords\nlist\n");
+        let plan = "plan 22\nrecipes 2 1 1\n";
+        let checked = "passed 22\nstretches 10 20 20 50 50 100\nrefused 15 1 0\n";
+        assert_eq!(
+            answers(&said),
+            format!("{plan}{checked}{reversed}{plan}{w}")
+        );
+    }
+
+    /// Example J from its last batch to its first: 14 fills the table, and leaves the records where they are.
+    #[test]
+    fn refused_records() {
+        let j = "week 0 10\nbatch 2 0 10 5 1\nbatch 1 5 9 4 1\n";
+        let said = format!("{j}table 23 255\nrecords\nlist\nshow table\n");
+        let right = format!("refused 14 0 0\n{j}table 0x9 1x2 0x11 255x1\n");
+        assert_eq!(answers(&said), right);
+        let list = "week 0 50\nbatch 5 0 40 1 1\nbatch 7 0 10 1 1\nbatch 5 0 5 1 1\n";
+        let right = format!("refused 9 3 0\n{list}");
+        assert_eq!(answers(&format!("{list}records\nlist\n")), right);
+        for (written, kept) in [(17, 17), (64, 64), (65, 64)] {
+            let list =
+                |count: usize| "week 0 30\n".to_string() + &"batch 7 0 10 1 1\n".repeat(count);
+            let said = list(written) + "records\nlist\n";
+            let right = "refused 3 0 0\n".to_string() + &list(kept);
+            assert_eq!(answers(&said), right);
+        }
+    }
+
+    /// Batches that are due together stand by ready minute, which below the opening is the opening, then by number.
+    #[test]
+    fn records_due_together() {
+        let said = "week 20 40\nbatch 4 10 30 1 1\nbatch 3 25 30 1 1\nbatch 5 0 30 1 1\nbatch 2 20 30 1 1\nbatch 6 0 29 1 1\n\
+            records\nlist\n";
+        let right = "plan 5\nrecipes 1 1 1 1 1\nweek 20 40\n\
+            batch 6 0 29 1 1\nbatch 2 20 30 1 1\nbatch 4 10 30 1 1\nbatch 5 0 30 1 1\nbatch 3 25 30 1 1\n";
+        assert_eq!(answers(said), right);
     }
 
     /// Above a limit the list stays above it.

@@ -19,6 +19,7 @@ pub fn passed_over(chance: &mut Chance) -> Vec<u8> {
 pub fn at_the_edge(chance: &mut Chance) -> Vec<u8> {
     let choice = " 1".repeat(MAX_CHOICE);
     let wide = format!("{:MAX_BYTES$}", "choose");
+    let records = format!("{:MAX_BYTES$}", "records");
     let far = format!("{:>MAX_BYTES$}", "list");
     let book = format!("{:>MAX_BYTES$}", "book");
     let full = format!("check{}{}", " ".repeat(MAX_BYTES - 7), " 1");
@@ -40,6 +41,7 @@ pub fn at_the_edge(chance: &mut Chance) -> Vec<u8> {
         &["check", &choice].concat(),
         &["run", &choice].concat(),
         &wide,
+        &records,
         &far,
         &book,
         &full,

@@ -4,9 +4,9 @@
 use crate::program::{Heard, Start};
 use crate::session::{Difference, How};
 
-const WORDS: [&str; 17] = [
-    "week", "batch", "table", "log", "choose", "check", "run", "show", "list", "sheet", "open",
-    "add", "withdraw", "plan", "book", "hold", "help",
+const WORDS: [&str; 18] = [
+    "week", "batch", "table", "log", "choose", "records", "check", "run", "show", "list", "sheet",
+    "open", "add", "withdraw", "plan", "book", "hold", "help",
 ];
 
 /// The text that this program gives; in every conversation it must be the same.

@@ -1,7 +1,7 @@
 //! The week book: calls from its opening on, the refused among them, and lists of every kind that it is made to hold.
 
 use crate::aside::aside;
-use crate::ask::{choose, operation, Choosing, CHOOSE, PLAN};
+use crate::ask::{choose, operation, Choosing, CHOOSE, PLAN, RECORDS};
 use crate::desk::KEPT_BATCHES;
 use crate::handwriting;
 use crate::lending;
@@ -9,7 +9,7 @@ use crate::script::Script;
 use crate::weeks;
 use drawn::weeks::{week, Shape, FULL};
 use drawn::{faults, Chance};
-use reference::{Batch, Book, Week};
+use reference::{refusal_told, Batch, Book, Week};
 
 /// Books whose every choice is tried.
 const SMALL: Shape = Shape {
@@ -84,8 +84,8 @@ pub fn before_any_opening(script: &mut Script, chance: &mut Chance) {
 pub fn history(script: &mut Script, chance: &mut Chance) {
     let hand = Hand::draw(chance);
     match chance.below(8) {
-        0..=3 => open(script, chance, &hand),
-        4..=6 => hold(script, chance, &hand),
+        0..=2 => open(script, chance, &hand),
+        3..=6 => hold(script, chance, &hand),
         _ => {}
     }
     if hand.all_first {
@@ -107,8 +107,8 @@ pub fn history(script: &mut Script, chance: &mut Chance) {
 fn every_call(script: &mut Script, chance: &mut Chance, hand: &Hand) {
     for _ in 0..chance.between(2..=8) {
         match chance.below(8) {
-            0 => add(script, chance, hand),
-            1..=3 => withdraw(script, chance),
+            0 | 1 => add(script, chance, hand),
+            2 | 3 => withdraw(script, chance),
             4..=6 => plan(script, chance, hand),
             _ => print(script),
         }
@@ -145,7 +145,7 @@ fn open(script: &mut Script, chance: &mut Chance, hand: &Hand) {
     script.say(line);
 }
 
-/// A list of some of the batches in hand, well formed or not, and calls on it.
+/// A list of some of the batches in hand, in order or not, well formed or not, and calls on it.
 fn hold(script: &mut Script, chance: &mut Chance, hand: &Hand) {
     let mut list = hand.week.clone();
     let most = list.batches.len().min(Week::MAX_BATCHES);
@@ -153,10 +153,9 @@ fn hold(script: &mut Script, chance: &mut Chance, hand: &Hand) {
     while list.batches.len() > count {
         list.batches.remove(chance.below(list.batches.len()));
     }
-    match chance.below(8) {
+    match chance.below(9) {
         0..=4 => weeks::fault(chance, &mut list),
-        5 => faults::put_in(chance, &mut list, 10),
-        6 => weeks::great_count(chance, &mut list),
+        5 => weeks::great_count(chance, &mut list),
         _ => {}
     }
     for line in handwriting::week(chance, &list) {
@@ -186,9 +185,11 @@ fn add_batch(script: &mut Script, chance: &mut Chance, batch: Batch) {
     let list = script.desk.book.list.clone();
     let line = handwriting::batch(chance, "add", &batch);
     let answer = script.say(line.clone());
-    if let Some(what) = shown_by_adding(&list, batch, &answer) {
+    if let Some(what) = shown_by_adding(&list.in_order(), batch, &answer) {
         script.shows(what);
     }
+    let put_in_order = "a book put in order by what is added";
+    print_if_out_of_order(script, chance, &list, &answer, put_in_order);
     if answer.starts_with("refused 20 ") && chance.one_in(2) {
         let number = list.batches[chance.below(list.batches.len())].number;
         script.say(handwriting::line(chance, "withdraw", &[number]));
@@ -198,7 +199,27 @@ fn add_batch(script: &mut Script, chance: &mut Chance, batch: Batch) {
     }
 }
 
-/// What the answer shows of a batch and the list to which it was to be added.
+/// What a call leaves of a book whose batches it found out of order, and what it shows where it is accepted; of other refusals
+/// than 14 now and then.
+fn print_if_out_of_order(
+    script: &mut Script,
+    chance: &mut Chance,
+    found: &Week,
+    answer: &str,
+    put_in_order: &'static str,
+) {
+    let what = match refusal_told(answer) {
+        _ if found.is_in_order() => return,
+        0 => put_in_order,
+        14 => "a book left out of order on 14",
+        _ if chance.one_in(6) => "a book left out of order by another refusal",
+        _ => return,
+    };
+    script.say("book");
+    script.shows(what);
+}
+
+/// What the answer shows of a batch and the list, in order, to which it was to be added.
 fn shown_by_adding(list: &Week, batch: Batch, answer: &str) -> Option<&'static str> {
     let batches = &list.batches;
     let place = list.before(&batch);
@@ -224,7 +245,8 @@ fn shown_by_adding(list: &Week, batch: Batch, answer: &str) -> Option<&'static s
 
 /// A number that is held, most often; else 0, a place, or any other.
 fn withdraw(script: &mut Script, chance: &mut Chance) {
-    let batches = &script.desk.book.list.batches;
+    let list = script.desk.book.list.clone();
+    let batches = list.in_order().batches;
     let at = chance.below(batches.len().max(1));
     let number = match (batches.get(at), chance.below(16)) {
         (_, 0) => 0,
@@ -242,6 +264,8 @@ fn withdraw(script: &mut Script, chance: &mut Chance) {
             _ => "the last withdrawn",
         });
     }
+    let put_in_order = "a book put in order by a withdrawal";
+    print_if_out_of_order(script, chance, &list, &answer, put_in_order);
 }
 
 fn plan(script: &mut Script, chance: &mut Chance, hand: &Hand) {
@@ -254,7 +278,10 @@ fn plan(script: &mut Script, chance: &mut Chance, hand: &Hand) {
         };
         script.say(lending::table(chance, list.entries()));
     }
-    choose(script, &PLAN);
+    let list = script.desk.book.list.clone();
+    let [answer, _] = choose(script, &PLAN);
+    let put_in_order = "a book put in order by its plan";
+    print_if_out_of_order(script, chance, &list, &answer, put_in_order);
 }
 
 fn print(script: &mut Script) {
@@ -277,11 +304,12 @@ fn plan_as_a_list(script: &mut Script, chance: &mut Chance) {
         return;
     };
     let table = lending::table(chance, list.entries());
-    let ask = |script: &mut Script, print: &str, choosing: &Choosing| {
+    let ask = |script: &mut Script, choosing: &Choosing| {
         script.say(table.clone());
-        (script.say(print), choose(script, choosing))
+        choose(script, choosing)
     };
-    let of_the_book = ask(script, "book", &PLAN);
+    let of_the_book = ask(script, &PLAN);
+    let book = script.say("book");
     for line in handwriting::week(chance, &list) {
         script.say(line);
     }
@@ -290,6 +318,11 @@ fn plan_as_a_list(script: &mut Script, chance: &mut Chance) {
         Week::MAX_BATCHES => "a full book planned as a list",
         _ => "a book planned as a list",
     });
-    let of_the_list = ask(script, "list", &CHOOSE);
+    let of_the_list = ask(script, &CHOOSE);
+    let of_the_records = ask(script, &RECORDS);
     assert_eq!(of_the_book, of_the_list, "a book is planned as a list");
+    assert_eq!(of_the_book, of_the_records, "a book is planned as records");
+    if refusal_told(&of_the_records[0]) == 0 {
+        assert_eq!(book, script.say("list"), "a book is in order");
+    }
 }

@@ -31,7 +31,8 @@ pub const RIGHT: Imitation = Imitation {
 };
 
 const HELP: &str =
-    "week T C\nbatch NUMBER R D COST WORTH ..\ntable SIZE V\nlog SIZE V\nchoose\ncheck K ..\nrun K ..\n\
+    "week T C\nbatch NUMBER R D COST WORTH ..\ntable SIZE V\nlog SIZE V\nchoose\n\
+    records: as choose, by lent records; the list is then as the records are left\ncheck K ..\nrun K ..\n\
     show table\nshow log\nlist\nsheet\nopen T C\nadd NUMBER R D COST WORTH ..\nwithdraw NUMBER\nplan\nbook\nhold\nhelp\n";
 
 impl Imitation {

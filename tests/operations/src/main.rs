@@ -18,6 +18,7 @@ mod imitation;
 mod lending;
 mod line;
 mod no_command;
+mod orders;
 mod pieces;
 mod program;
 mod script;

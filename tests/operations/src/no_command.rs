@@ -51,6 +51,7 @@ fn command(chance: &mut Chance) -> &'static str {
         "table 9 7",
         "log 9 7",
         "choose",
+        "records",
         "check 1 2",
         "run 1 2",
         "show table",
@@ -84,6 +85,7 @@ fn unknown_word(chance: &mut Chance) -> Vec<u8> {
                 "weekdesk",
                 "weeks 0 100",
                 "choosy",
+                "record",
                 " # week 0 9",
             ];
             line = chance.one_of(&words).into();
@@ -103,6 +105,8 @@ fn word_too_many(chance: &mut Chance) -> Vec<u8> {
         "log 9 7 7",
         "choose 1",
         "choose choose",
+        "records 1",
+        "records 7 0 40 30 9",
         "show table log",
         "show log 1",
         "list 1",

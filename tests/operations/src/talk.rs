@@ -6,6 +6,7 @@ use crate::ask::operation;
 use crate::handwriting;
 use crate::history::{self, history};
 use crate::lending;
+use crate::orders;
 use crate::script::Script;
 use crate::weeks::{self, Subject};
 use drawn::Chance;
@@ -40,6 +41,9 @@ fn about(script: &mut Script, chance: &mut Chance, subject: &Subject) {
         if chance.one_in(6) {
             lend(script, chance, subject);
         }
+    }
+    if chance.one_in(3) {
+        orders::another(script, chance);
     }
 }
 

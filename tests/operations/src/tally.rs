@@ -16,18 +16,22 @@ struct Operation {
 /// What `add` refuses for the held list.
 const HELD_LIST: &str = "add, of the held list";
 
-const OPERATIONS: [Operation; 9] = [
+const OPERATIONS: [Operation; 10] = [
     Operation {
         name: "choose",
-        refusals: &[1, 2, 3, 4, 5, 6, 7, 8, 9, 10, 11, 14],
+        refusals: &[1, 2, 3, 4, 5, 6, 7, 8, 9, 11, 14],
+    },
+    Operation {
+        name: "records",
+        refusals: &[1, 2, 3, 4, 5, 6, 7, 8, 9, 11, 14],
     },
     Operation {
         name: "check",
-        refusals: &[1, 2, 3, 4, 5, 6, 7, 8, 9, 10, 13, 15],
+        refusals: &[1, 2, 3, 4, 5, 6, 7, 8, 9, 13, 15],
     },
     Operation {
         name: "run",
-        refusals: &[1, 2, 3, 4, 5, 6, 7, 8, 9, 10, 12, 13],
+        refusals: &[1, 2, 3, 4, 5, 6, 7, 8, 9, 12, 13],
     },
     Operation {
         name: "sheet",
@@ -43,15 +47,15 @@ const OPERATIONS: [Operation; 9] = [
     },
     Operation {
         name: HELD_LIST,
-        refusals: &[1, 2, 3, 4, 5, 6, 7, 8, 9, 10],
+        refusals: &[1, 2, 3, 4, 5, 6, 7, 8, 9],
     },
     Operation {
         name: "withdraw",
-        refusals: &[1, 2, 3, 4, 5, 6, 7, 8, 9, 10, 21],
+        refusals: &[1, 2, 3, 4, 5, 6, 7, 8, 9, 21],
     },
     Operation {
         name: "plan",
-        refusals: &[1, 2, 3, 4, 5, 6, 7, 8, 9, 10, 11, 14],
+        refusals: &[1, 2, 3, 4, 5, 6, 7, 8, 9, 11, 14],
     },
 ];
 
@@ -59,7 +63,7 @@ const OPERATIONS: [Operation; 9] = [
 const MAX_REFUSAL: usize = 21;
 
 /// What lines must have shown, beside each way in which a line is no command.
-const SHOWN: [&str; 49] = [
+const SHOWN: [&str; 69] = [
     "planned by every choice",
     "planned by the recursion",
     "planned by the recursion, a full week",
@@ -67,6 +71,20 @@ const SHOWN: [&str; 49] = [
     "a table filled on 14",
     "a table after a refusal",
     "a table with bytes that are kept",
+    "records planned by every choice",
+    "records planned by the recursion",
+    "records planned by the recursion, a full week",
+    "a table of records",
+    "a table of records filled on 14",
+    "a table of records after a refusal",
+    "a table of records with bytes that are kept",
+    "records put in order",
+    "records that came in order",
+    "records that came in order refused",
+    "records left out of order on 14",
+    "records left out of order by another refusal",
+    "more than 16 records left",
+    "more than 64 records left",
     "a log",
     "a log after a refusal",
     "a log with bytes that are kept",
@@ -75,6 +93,7 @@ const SHOWN: [&str; 49] = [
     "a batch finished",
     "a batch unfinished",
     "a list written down again",
+    "a list written down in another order",
     "a list of more than 64 batches",
     "a list with more than 10 recipes",
     "a sheet with a batch without recipes",
@@ -100,6 +119,11 @@ const SHOWN: [&str; 49] = [
     "the first of several withdrawn",
     "one between two withdrawn",
     "the last withdrawn",
+    "a book put in order by what is added",
+    "a book put in order by a withdrawal",
+    "a book put in order by its plan",
+    "a book left out of order on 14",
+    "a book left out of order by another refusal",
     "a book of more than 16 batches",
     "a book of more than 64 batches",
     "a book with more than 10 recipes",
@@ -170,7 +194,7 @@ impl Tally {
             self.commands, self.conversations
         );
         print!("{:<22}{:>9}", "", "accepted");
-        let refusals = (1..=MAX_REFUSAL).filter(|refusal| !(16..20).contains(refusal));
+        let refusals = (1..=MAX_REFUSAL).filter(|refusal| !matches!(refusal, 10 | 16..20));
         refusals.clone().for_each(|refusal| print!("{refusal:>6}"));
         println!();
         for (operation, answers) in OPERATIONS.iter().zip(&self.answers) {
@@ -225,6 +249,7 @@ fn operation(line: &Line, answer: &str) -> Option<usize> {
     };
     let name = match command {
         Command::Choose => "choose",
+        Command::Records => "records",
         Command::Check(_) => "check",
         Command::Run(_) => "run",
         Command::Sheet => "sheet",

@@ -33,8 +33,8 @@ const LIST: Shape = Shape {
 pub fn draw(chance: &mut Chance) -> Subject {
     match chance.below(32) {
         0..=12 => Subject::new(week(chance, &SMALL)),
-        13..=27 => damaged(chance, fault),
-        28 | 29 => damaged(chance, great_count),
+        13..=26 => damaged(chance, fault),
+        27..=29 => damaged(chance, great_count),
         30 => Subject::new(week(chance, &LARGER)),
         _ => Subject::new(week(chance, &FULL)),
     }
@@ -56,13 +56,14 @@ fn damaged(chance: &mut Chance, damage: fn(&mut Chance, &mut Week)) -> Subject {
     subject
 }
 
-/// A fault of 1 to 10, or two, in a list that has a batch.
+/// A fault of 1 to 9, or two, in a list that has a batch.
 pub fn fault(chance: &mut Chance, week: &mut Week) {
-    let refusal = chance.between(1..=10);
+    let refusal = chance.between(1..=9);
     faults::put_in_one_or_two(chance, week, refusal);
 }
 
-/// 17 to 70 batches and now and then more than a byte counts, or as many recipes of one batch, in a list that has one.
+/// 17 to 70 batches in any order and now and then more than a byte counts, or as many recipes of one batch, in a list that has
+/// one.
 pub fn great_count(chance: &mut Chance, week: &mut Week) {
     let batches = &mut week.batches;
     let at = chance.below(batches.len());
@@ -77,6 +78,7 @@ pub fn great_count(chance: &mut Chance, week: &mut Week) {
         let count = count_above(chance, Week::MAX_BATCHES);
         let batch = batches[at].clone();
         batches.resize(count, batch);
+        chance.shuffle(batches);
     }
 }
 

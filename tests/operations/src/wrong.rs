@@ -5,7 +5,9 @@ mod checks;
 mod held;
 mod lines;
 mod lists;
+mod orders;
 mod plans;
+mod records;
 mod runs;
 
 use crate::desk::Desk;
@@ -29,6 +31,7 @@ const ILL_MANNERED: [Imitation; 3] = [
 pub fn all() -> impl Iterator<Item = Imitation> {
     let answers = plans::WRONG.into_iter().chain(checks::WRONG);
     let answers = answers.chain(runs::WRONG).chain(lists::WRONG);
+    let answers = answers.chain(orders::WRONG).chain(records::WRONG);
     let answers = answers.chain(books::WRONG).chain(held::WRONG);
     answers.chain(lines::WRONG).chain(ILL_MANNERED)
 }
@@ -92,6 +95,17 @@ fn carried_out(desk: &mut Desk, line: &[u8]) -> (Option<Command>, Book, String) 
         _ => None,
     };
     (command, before, answer)
+}
+
+/// Whether a plan was looked for.
+fn chosen(answer: &str) -> bool {
+    answer.starts_with("plan ") || answer.starts_with("refused 14 ")
+}
+
+/// The place of a refusal that begins so.
+fn refused_at(answer: &str, start: &str) -> Option<usize> {
+    let (place, _) = answer.strip_prefix(start)?.split_once(' ')?;
+    place.parse().ok()
 }
 
 /// Whether a call that opens or changes the book is answered so.

@@ -6,8 +6,8 @@ use crate::plan::Plan;
 use crate::refusal::{Refusal, Refused};
 use crate::week::{Batch, Week};
 
-/// "a book that holds one week and its batches in order". It can be made to hold any list: "every other call first refuses a
-/// held list that is not well formed, as Choose would".
+/// "a book that holds one week and its batches in order". It can be made to hold any list, in any order: "every other call
+/// first refuses a held list that is not well formed, as Choose would", and "an accepted call hands a book back in that order".
 #[derive(Clone)]
 pub struct Book {
     pub list: Week,
@@ -35,7 +35,7 @@ impl Book {
         judged
     }
 
-    /// "20 the book already holds 16 (add, before 4)"; "add puts the batch in order, so 10 never occurs there".
+    /// "20 the book already holds 16 (add, before 4)"; "add puts the batch in order".
     pub fn add(&mut self, batch: Batch) -> Result<(), Refused> {
         list::judge(&self.list)?;
         Refusal::BookFull.when(self.list.batches.len() >= Week::MAX_BATCHES)?;
@@ -50,15 +50,18 @@ impl Book {
         list::judge(&self.list)?;
         Refusal::NotHeld.when(!self.list.holds(number))?;
         self.list.batches.retain(|batch| batch.number != number);
+        self.list.put_in_order();
         Ok(())
     }
 
-    /// "planning a book answers, and fills the table lent, as Choose does".
+    /// "planning a book answers, and fills the table lent, as Choose does". 14 is no accepted call.
     pub fn plan(
-        &self,
+        &mut self,
         picks: &mut [u8],
         best: impl Fn(&Week, &mut [u8]) -> Option<Plan>,
     ) -> Result<Plan, Refused> {
-        operation::choose(&self.list, picks, best)
+        let plan = operation::choose(&self.list, picks, best)?;
+        self.list.put_in_order();
+        Ok(plan)
     }
 }

@@ -18,7 +18,8 @@ pub fn answer(
     }
 }
 
-/// "Order: 18; then line by line 16, 17; then 1, 2, 3; then batch by batch 4 to 10 ..; 11; .. 19; then 14".
+/// "Order: 18; then line by line 16, 17; then 1, 2, 3; then batch by batch 4 to 10 ..; 11; .. 19; then 14", without 10: the
+/// sheet is read into a list in order.
 fn plan(
     sheet: &[u8],
     picks: &mut [u8],

@@ -60,7 +60,7 @@ pub fn tries(sheet: &[u8]) -> Option<u64> {
 
 /// How many choices are tried for this list's whole table; none if the list is refused.
 pub fn tries_of_list(week: &Week) -> Option<u64> {
-    list::judge(week).ok()?;
+    let week = list::accept(week).ok()?;
     let mut choices = 1u64;
     let mut tries = 0u64;
     for batch in &week.batches {

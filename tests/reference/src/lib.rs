@@ -1,5 +1,6 @@
 //! The planner a second time, from document 01: the operations over a list, the call and the text of its program over a
-//! sheet, and three ways to find the best plan. From document 02, One: the week book.
+//! sheet, and three ways to find the best plan. From document 02, One: the week book; Two: lists in any order, and choosing
+//! from records. The ways to find a plan, the rule and the run go over a list in order.
 
 mod book;
 mod call;
@@ -19,7 +20,8 @@ mod week;
 
 pub use book::Book;
 pub use every_choice::{plan as best_of_every_choice, tries, tries_of_list};
-pub use operation::{check, choose, run, Passed};
+pub use list::accept;
+pub use operation::{check, choose, records, run, Passed};
 pub use plan::Plan;
 pub use recursion::plan as best_by_recursion;
 pub use refusal::{refusal_told, Refusal, Refused};

@@ -1,18 +1,23 @@
-//! Document 01, "The desk, with a list": refusals 1 to 10, "then 1, 2, 3; then batch by batch 4 to 10, each batch
-//! whole before the next; then 13".
+//! Document 01, "The desk, with a list": "then 1, 2, 3; then batch by batch 4 to 10, each batch whole before the next; then
+//! 13". Document 02, Two: a list comes in any order, and "10 no longer occurs".
 
 use crate::refusal::{Refusal, Refused};
 use crate::sheet;
 use crate::week::{Batch, Week};
 
-/// "Read a sheet, answering a list that passed 1 to 10."
+/// "Read a sheet, answering a list that passed" the list's refusals.
 pub fn read(sheet: &[u8]) -> Result<Week, Refused> {
-    let week = sheet::read(sheet)?;
-    judge(&week)?;
-    Ok(week)
+    accept(&sheet::read(sheet)?)
 }
 
-/// Whether 1 to 10 let this list pass; it may hold any number of batches, and each of them any number of recipes.
+/// The list in order, where it is not refused as it was handed in: "all other calls order inside"; "Choices, answers,
+/// tables, logs and the recipe buffer follow the ordered list".
+pub fn accept(week: &Week) -> Result<Week, Refused> {
+    judge(week)?;
+    Ok(week.in_order())
+}
+
+/// Whether 1 to 9 let this list pass; it may hold any number of batches, and each of them any number of recipes.
 pub fn judge(week: &Week) -> Result<(), Refused> {
     Refusal::CloseNotAfterOpening.when(week.closing <= week.opening)?;
     Refusal::WeekTooLong.when(week.closing - week.opening > Week::MAX_MINUTES)?;
@@ -22,7 +27,7 @@ pub fn judge(week: &Week) -> Result<(), Refused> {
 }
 
 /// "13: a choice whose length is not n (position 0), or that names a recipe its batch has not got (the first such
-/// position)", of a list that passed 1 to 10.
+/// position)", of a list that is accepted and in order.
 pub fn judge_choice(week: &Week, choice: &[u8]) -> Result<(), Refused> {
     Refusal::Choice.when(choice.len() != week.batches.len())?;
     let mut chosen = week.batches.iter().zip(choice);
@@ -30,12 +35,9 @@ pub fn judge_choice(week: &Week, choice: &[u8]) -> Result<(), Refused> {
     missing.map_or(Ok(()), |i| Err(Refused::from(Refusal::Choice).at(i + 1)))
 }
 
-/// The batch with index i, after the batches before it.
+/// The batch with index i, after the batches handed in before it.
 fn judge_batch(week: &Week, i: usize) -> Result<(), Refused> {
-    let (earlier, batch) = (&week.batches[..i], &week.batches[i]);
-    judge_beside(batch, earlier, week.closing)?;
-    let before = earlier.last();
-    Refusal::BatchOrder.when(before.is_some_and(|other| week.order(other) >= week.order(batch)))
+    judge_beside(&week.batches[i], &week.batches[..i], week.closing)
 }
 
 /// 4 to 9 of a batch beside these others, naming no place.

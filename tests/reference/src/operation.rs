@@ -1,5 +1,5 @@
 //! Document 01, "Operations": Check, Choose and Run over a list as it is handed in, with counts that may be above the
-//! limits.
+//! limits, and its batches in any order. Document 02, Two: choosing from records.
 
 use crate::list;
 use crate::plan::Plan;
@@ -16,12 +16,12 @@ pub struct Passed {
 
 /// "Check: list and choice, answering the stretches and the total." Refused by the list, 13 and 15.
 pub fn check(week: &Week, choice: &[u8]) -> Result<Passed, Refused> {
-    list::judge(week)?;
-    list::judge_choice(week, choice)?;
+    let week = list::accept(week)?;
+    list::judge_choice(&week, choice)?;
     let broken = |position| Refused::from(Refusal::RuleBroken).at(position);
     Ok(Passed {
-        stretches: rule::stretches(week, choice).map_err(broken)?,
-        total: rule::total(week, choice),
+        stretches: rule::stretches(&week, choice).map_err(broken)?,
+        total: rule::total(&week, choice),
     })
 }
 
@@ -33,19 +33,31 @@ pub fn choose(
     picks: &mut [u8],
     best: impl Fn(&Week, &mut [u8]) -> Option<Plan>,
 ) -> Result<Plan, Refused> {
-    list::judge(week)?;
+    let week = list::accept(week)?;
     Refusal::ShortPicks.when(picks.len() < week.entries())?;
-    let plan = best(week, &mut picks[..week.entries()]);
+    let plan = best(&week, &mut picks[..week.entries()]);
     plan.ok_or(Refusal::NoPlan.into())
+}
+
+/// "The desk's system lends its list as records, in the order the parcels came. Choosing from them puts them in order where
+/// they are .. After any refusal, 14 too, they keep their old places."
+pub fn records(
+    week: &mut Week,
+    picks: &mut [u8],
+    best: impl Fn(&Week, &mut [u8]) -> Option<Plan>,
+) -> Result<Plan, Refused> {
+    let plan = choose(week, picks, best)?;
+    week.put_in_order();
+    Ok(plan)
 }
 
 /// "Run: list, choice, log." Refused by the list, 13 and 12; "Run takes any well-formed choice, also one that breaks the
 /// rule".
 pub fn run(week: &Week, choice: &[u8], log: &mut [u8]) -> Result<Run, Refused> {
-    list::judge(week)?;
-    list::judge_choice(week, choice)?;
+    let week = list::accept(week)?;
+    list::judge_choice(&week, choice)?;
     Refusal::ShortLog.when(log.len() < usize::from(week.closing - week.opening))?;
-    let run = Run::of(week, choice);
+    let run = Run::of(&week, choice);
     // "Bytes after entry c − t − 1 keep their values."
     for (byte, &entry) in log.iter_mut().zip(run.log()) {
         *byte = u8::try_from(entry).expect("one of 16 positions");

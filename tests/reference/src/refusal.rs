@@ -22,8 +22,6 @@ pub enum Refusal {
     WorthSetAside = 8,
     /// "number 0, or a number that stands earlier in the list."
     BatchNumber = 9,
-    /// "a batch not in order after the one before."
-    BatchOrder = 10,
     /// "picks table shorter than n × (c − t + 1), n being the batches."
     ShortPicks = 11,
     /// "log shorter than c − t."
@@ -79,7 +77,8 @@ pub struct Refused {
 }
 
 impl Refused {
-    /// "The place is the batch's position for 4 to 10, 13, 15 .., the line from 1 for 16 and 17 .., else 0."
+    /// "The place is the batch's position for 4 to 10, 13, 15 .., the line from 1 for 16 and 17 .., else 0." Document 02, Two:
+    /// "9 and all desk refusals .. name the place as handed in .., all else the ordered place."
     pub fn at(self, place: usize) -> Refused {
         Refused { place, ..self }
     }

@@ -62,15 +62,24 @@ impl Week {
         self.opening.max(batch.arrival)
     }
 
-    /// "Batches stand in order of due minute, then ready minute, then number."
+    /// A batch's place: "in order of due minute, then ready minute, then number."
     pub fn order(&self, batch: &Batch) -> (u16, u16, u16) {
         (batch.due, self.ready(batch), batch.number)
     }
 
+    /// The same batches in order, each with its recipes as they are.
+    pub fn in_order(&self) -> Week {
+        let mut week = self.clone();
+        week.batches.sort_by_key(|batch| self.order(batch));
+        week
+    }
+
     pub fn put_in_order(&mut self) {
-        let mut batches = std::mem::take(&mut self.batches);
-        batches.sort_by_key(|batch| self.order(batch));
-        self.batches = batches;
+        *self = self.in_order();
+    }
+
+    pub fn is_in_order(&self) -> bool {
+        self.batches.is_sorted_by_key(|batch| self.order(batch))
     }
 
     /// How many of its batches come before this one.

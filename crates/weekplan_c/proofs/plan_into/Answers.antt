@@ -10,17 +10,21 @@ use Rattle.std.specs.Prelude.{Ok}
 use Rattle.week.specs.declared.refusal.Fault.{Fault}
 use Rattle.week.specs.declared.refusal.Refusal.{Refusal}
 use Rattle.week.specs.Record.{Week, max_batches}
+use Rattle.week.specs.Ordered.{ordered_week}
 use Rattle.week.specs.Refusal.{accepted, first_of}
 use Rattle.week.specs.Fault.{number_of, numbers}
 use Rattle.week.proofs.First.{number_of_lem, refuses_too}
 use Rattle.week.proofs.Faults.{fault_refuses}
-use Rattle.weekplan_c.specs.Call.{lent_faults, keep_fault, call_fault, minus_of, answered, call_answer, picks_after, recipes_after}
+use Rattle.weekplan_c.specs.Call.{buffer_fault, lent_faults, keep_fault, call_fault, minus_of, answered, call_answer}
+use Rattle.weekplan_c.specs.Call.{picks_after, recipes_after}
 use Rattle.weekplan_c.proofs.Calling.{keep_sheet, keep_sizes, keep_faultless, call_keep, call_plan, long_buffer, call_answer_lem}
 use Rattle.weekplan_c.proofs.Calling.{picks_filled, picks_kept, recipes_written, recipes_kept}
 use Rattle.weekplan_c.proofs.plan_into.Goals as goal
 use Rattle.judge.proofs.Sound.{sound}
+use Rattle.judge.proofs.AnyOrder.{in_order_rearranged}
 use Rattle.planner.specs.declared.choose.Plan.{Plan}
-use Rattle.planner.specs.Choose.{ChooseAnswer, refused_plan, chosen_answer, choose_answer, table_after}
+use Rattle.planner.specs.Choose.{ChooseAnswer, table_fault, refused_plan, chosen_answer, choose_answer, table_after}
+use Rattle.planner.proofs.AnyOrder.{same_choose, same_table}
 use Rattle.sheet.specs.List.{sheet_week}
 use Rattle.sheet.specs.Read.{read_answer, answer_of}
 use Rattle.sheet.proofs.Reading.{handed_fault, handed_week}
@@ -48,16 +52,17 @@ module _ (sheet picks recipes : List ℕ) where
         recipes = sym (recipes_kept sheet picks recipes (refuses_too (sym call) keep));
       }
 
-  -- a sheet is read: the sizes are judged
+  -- a sheet is read: the sizes are judged, by the list in order as by the list
   sizes_judged : {w : Week} → answer_of (Ok w) ≡ read_answer sheet → {size : Refusal} →
       size ≡ first_of (lent_faults w (length picks) (length recipes)) → size ≡ keep_fault sheet (length picks) (length recipes)
+  unfolding table_fault buffer_fault
   sizes_judged {w} read sizes =
       let week = handed_week sheet w read in
       rw week.1 at sizes ∙ sym (keep_sizes sheet (length picks) (length recipes) week.0)
 
-  -- what holds once Choose has answered for week w and the table is filled: `after` is what it holds then
+  -- what holds once Choose has answered for w, the list in order, and the table is filled: `after` is what it holds then
   record Chosen (w : Week) (plan : ChooseAnswer) (after : List ℕ) : Type 0 where
-    week : w ≡ sheet_week sheet
+    week : w ≡ ordered_week (sheet_week sheet)
     keep : (keep_fault sheet (length picks) (length recipes)).number ≡ 0
     plan_is : plan ≡ choose_answer (sheet_week sheet) (length picks)
     filled : after ≡ picks_after sheet picks (length recipes)
@@ -68,11 +73,13 @@ module _ (sheet picks recipes : List ℕ) where
   chosen {w} read sizes plan table =
       let week = (handed_week sheet w read).1 in
       let keep = number_of_lem (sym (sizes_judged read sizes)) in
+      let list = ((keep_faultless sheet (length picks) (length recipes)).0 keep).0.list in
+      let rearranged = in_order_rearranged (sheet_week sheet) list in
       record {
         week = week;
         keep = keep;
-        plan_is = rw week at plan;
-        filled = rw week at table ∙ sym (picks_filled sheet picks recipes keep);
+        plan_is = rw week at plan ∙ sym (same_choose rearranged list (length picks));
+        filled = rw week at table ∙ sym (same_table rearranged list picks) ∙ sym (picks_filled sheet picks recipes keep);
       }
 
   module _ {w : Week} {after : List ℕ} where

@@ -39,8 +39,9 @@ fn aside_fails(desk: &mut Desk, line: &[u8]) -> String {
     let Ok(passed) = reference::check(&desk.week, &choice) else {
         return answer;
     };
-    let stretches = desk.week.batches.iter().zip(&passed.stretches);
-    let mut late = stretches.map(|(batch, stretch)| desk.week.ready(batch) > stretch.start);
+    let list = desk.week.in_order();
+    let stretches = list.batches.iter().zip(&passed.stretches);
+    let mut late = stretches.map(|(batch, stretch)| list.ready(batch) > stretch.start);
     match late.rposition(|late| late) {
         Some(i) => format!("refused 15 {} 0\n", i + 1),
         None => answer,
@@ -55,7 +56,8 @@ fn aside_ends_when_due(desk: &mut Desk, line: &[u8]) -> String {
     let Ok(mut check) = reference::check(&desk.week, &choice) else {
         return answer;
     };
-    for (batch, stretch) in desk.week.batches.iter().zip(&mut check.stretches) {
+    let list = desk.week.in_order();
+    for (batch, stretch) in list.batches.iter().zip(&mut check.stretches) {
         if stretch.start == stretch.end {
             stretch.start = stretch.start.min(batch.due);
             stretch.end = stretch.start;
@@ -72,15 +74,11 @@ fn no_13(desk: &mut Desk, line: &[u8]) -> String {
         _ => return desk.answer(line),
     };
     let numbers = choice.into_iter().chain(std::iter::repeat(1));
-    let fitted = desk
-        .week
-        .batches
-        .iter()
-        .zip(numbers)
-        .map(|(batch, number)| {
-            let number = usize::from(number).min(batch.recipes.len()).max(1);
-            format!(" {number}")
-        });
+    let list = desk.week.in_order();
+    let fitted = list.batches.iter().zip(numbers).map(|(batch, number)| {
+        let number = usize::from(number).min(batch.recipes.len()).max(1);
+        format!(" {number}")
+    });
     let line = word.to_string() + &fitted.collect::<String>();
     desk.answer(line.as_bytes())
 }

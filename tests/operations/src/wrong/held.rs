@@ -8,20 +8,11 @@ use crate::line::{Command, Line};
 use reference::{Book, Week};
 use std::sync::Mutex;
 
-pub const WRONG: [Imitation; 23] = [
+pub const WRONG: [Imitation; 22] = [
     wrong("a plan of the list written down", |desk, line| {
         asked(Command::Plan, desk, line, |desk, _| desk.answer(b"choose"))
     }),
     wrong("a plan of what was planned before", stale_plan),
-    wrong("a plan of the held list put in order", |desk, line| {
-        asked(Command::Plan, desk, line, |desk, line| {
-            let held = desk.book.clone();
-            desk.book.list.put_in_order();
-            let answer = desk.answer(line);
-            desk.book = held;
-            answer
-        })
-    }),
     wrong("a plan empties the book", |desk, line| {
         empties_the_book(desk, line, "plan ")
     }),
@@ -46,9 +37,9 @@ pub const WRONG: [Imitation; 23] = [
             clears_table(desk, line, "refused 11 ")
         })
     }),
-    wrong("a book's table cleared on 10", |desk, line| {
+    wrong("a book's table cleared on 9", |desk, line| {
         asked(Command::Plan, desk, line, |desk, line| {
-            clears_table(desk, line, "refused 10 ")
+            clears_table(desk, line, "refused 9 ")
         })
     }),
     wrong("add asks nothing of the held list", |desk, line| {

@@ -1,11 +1,11 @@
 //! Lists judged wrongly, or not kept as they were written down.
 
-use super::{list_asked, wrong};
+use super::{list_asked, refused_at, wrong};
 use crate::imitation::Imitation;
 use crate::line::{Command, Line};
 use reference::{Batch, Week};
 
-pub const WRONG: [Imitation; 8] = [
+pub const WRONG: [Imitation; 7] = [
     wrong("a count of batches cut to the limit", |desk, line| {
         let answer = desk.answer(line);
         desk.week.batches.truncate(Week::MAX_BATCHES);
@@ -55,15 +55,6 @@ pub const WRONG: [Imitation; 8] = [
             None => answer,
         }
     }),
-    wrong("10 by arrival, not by ready minute", |desk, line| {
-        let answer = desk.answer(line);
-        let order = |batch: &Batch| (batch.due, batch.arrival, batch.number);
-        let mut pairs = list_asked(desk, line).batches.windows(2);
-        match pairs.position(|pair| order(&pair[0]) >= order(&pair[1])) {
-            Some(i) if accepted(&answer) => format!("refused 10 {} 0\n", i + 2),
-            _ => answer,
-        }
-    }),
     wrong("list prints more than 64 batches", |desk, line| {
         let mut answer = desk.answer(line);
         if answer.starts_with("week ") && list_asked(desk, line).batches.len() > 64 {
@@ -72,15 +63,3 @@ pub const WRONG: [Imitation; 8] = [
         answer
     }),
 ];
-
-/// The place of a refusal that begins so.
-fn refused_at(answer: &str, start: &str) -> Option<usize> {
-    let (place, _) = answer.strip_prefix(start)?.split_once(' ')?;
-    place.parse().ok()
-}
-
-fn accepted(answer: &str) -> bool {
-    ["plan ", "passed ", "ran "]
-        .iter()
-        .any(|word| answer.starts_with(word))
-}

@@ -58,7 +58,7 @@ pub const WRONG: [Imitation; 10] = [
     wrong("an entry of 0 as the last recipe", |desk, line| {
         let answer = desk.answer(line);
         if answer.starts_with("plan ") {
-            let list = list_asked(desk, line).clone();
+            let list = list_asked(desk, line).in_order();
             let rows = desk.table.chunks_exact_mut(list.closes());
             for (row, batch) in rows.zip(&list.batches) {
                 let last = batch.recipes.len() as u8;

@@ -1,4 +1,4 @@
--- `batches_fault` answers the first of 4 to 10, batch by batch. The invariants: the walk has come to the batch of index i;
+-- `batches_fault` answers the first of 4 to 9, batch by batch. The invariants: the walk has come to the batch of index i;
 -- that batch passes 4 to 6, and its recipes from k on decide 7.
 use Prim.Native.Nat.{◌≤◌, ◌-◌}
 use mathlib.Core.Path.{◌≡◌}

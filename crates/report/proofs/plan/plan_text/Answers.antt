@@ -24,22 +24,26 @@ loop-i-init c = record {
 
 pub line_of-line-requires : goal.line_of-line-requires
 line_of-line-requires c =
-    c.requires.forward (suc c.loop-i.i) (omega arith) (omega (arith, length-take c.args.week.count c.args.week.batches))
+    c.requires.forward (suc c.loop-i.i) (omega arith)
+    (omega (arith, ap length c.listed-batch-items.ensures, length-take c.args.week.count c.args.week.batches))
 
 pub batch_line-requires : goal.batch_line-requires
-batch_line-requires c = omega (arith, length-take c.args.week.count c.args.week.batches)
+batch_line-requires c =
+    omega (arith, ap length c.listed-batch-items.ensures, length-take c.args.week.count c.args.week.batches)
 
 pub loop-i-preserved : goal.loop-i-preserved
 unfolding batch_answer
 loop-i-preserved c =
     let args = c.args in
     let i = c.loop-i.i in
-    let more : i < args.week.count = omega (arith, length-take args.week.count args.week.batches) in
+    let more : i < args.week.count =
+    omega (arith, ap length c.listed-batch-items.ensures, length-take args.week.count args.week.batches) in
     record {
       put =
           rw (
             c.batch_line.ensures.line,
             c.line_of-line.ensures,
+            c.listed-batch-items.ensures,
             get_or-take args.week.count args.week.batches i no_batch more,
             c.loop-i.invariant.put,
             lines_more args.week (chosen_answer (Ok args.plan)) (checked_answer (Ok args.checked)) (ran_answer (Ok args.ran)) i,
@@ -53,5 +57,5 @@ unfolding flatten
 returns c =
     let week = c.args.week in
     let all : c.loop-i.i ≡ week.count =
-    omega (arith, length-take week.count week.batches, batches_owned week _ c.well_formed.0) in
+    omega (arith, ap length c.listed-batch-items.ensures, length-take week.count week.batches, batches_owned week _ c.well_formed.0) in
     rw (all, c.total_line.ensures.line, c.week_line.ensures.line, c.new-text.ensures, append_assoc) at c.loop-i.invariant.put

@@ -29,4 +29,4 @@ plan_text-requires c = printable_lem c.args.week c.in_ok-plan.plan c.in_ok-plan.
 pub returns : goal.returns
 returns c =
     c.plan_text.ensures
-    ∙ lines_made c.args.week c.in_ok-plan.plan c.in_ok-plan.ensures c.in_ok-checked.ensures c.in_ok-ran.ensures
+    ∙ lines_made c.args.week c.in_ok-plan.plan c.in_ok-plan.ensures c.in_ok-checked.ensures c.requires c.in_ok-ran.ensures
