@@ -33,25 +33,14 @@ pub const WRONG: [Imitation; 24] = [
         plans(desk, line, |_| {})
     }),
     wrong("a list planned by its due minutes alone", |desk, line| {
-        plans(desk, line, |list| {
-            list.batches.sort_by_key(|batch| batch.due)
-        })
+        plans(desk, line, by_due_alone)
     }),
     wrong(
         "a list planned by arrival, not by ready minute",
-        |desk, line| {
-            plans(desk, line, |list| {
-                let order = |batch: &Batch| (batch.due, batch.arrival, batch.number);
-                list.batches.sort_by_key(order);
-            })
-        },
+        |desk, line| plans(desk, line, by_arrival),
     ),
     wrong("a list planned without its numbers", |desk, line| {
-        plans(desk, line, |list| {
-            let opening = list.opening;
-            let order = |batch: &Batch| (batch.due, batch.arrival.max(opening));
-            list.batches.sort_by_key(order);
-        })
+        plans(desk, line, without_numbers)
     }),
     wrong("a choice read in the order handed in", choice_turned),
     wrong("recipes in the order handed in", |desk, line| {
@@ -183,6 +172,22 @@ fn refused_in_order(desk: &mut Desk, line: &[u8], refusals: RangeInclusive<usize
     other.week.put_in_order();
     other.book.list.put_in_order();
     other.answer(line)
+}
+
+/// Wrong orders of a list: what the key leaves out, or takes for another.
+pub fn by_due_alone(list: &mut Week) {
+    list.batches.sort_by_key(|batch| batch.due);
+}
+
+pub fn by_arrival(list: &mut Week) {
+    let order = |batch: &Batch| (batch.due, batch.arrival, batch.number);
+    list.batches.sort_by_key(order);
+}
+
+pub fn without_numbers(list: &mut Week) {
+    let opening = list.opening;
+    let order = |batch: &Batch| (batch.due, batch.arrival.max(opening));
+    list.batches.sort_by_key(order);
 }
 
 /// An accepted list is planned in this order.

@@ -1,11 +1,12 @@
 //! Records left wrongly, or not all of them asked.
 
+use super::orders::{by_arrival, by_due_alone, without_numbers};
 use super::plans::{clears_table, keeps_table};
 use super::{asked, wrong};
 use crate::desk::Desk;
 use crate::imitation::Imitation;
 use crate::line::Command;
-use reference::{Batch, Week};
+use reference::Week;
 
 pub const WRONG: [Imitation; 15] = [
     wrong("records put in order on 14", |desk, line| {
@@ -39,27 +40,14 @@ pub const WRONG: [Imitation; 15] = [
     }),
     wrong(
         "records in order by their due minutes alone",
-        |desk, line| {
-            ordered(desk, line, |list| {
-                list.batches.sort_by_key(|batch| batch.due)
-            })
-        },
+        |desk, line| ordered(desk, line, by_due_alone),
     ),
     wrong(
         "records in order by arrival, not by ready minute",
-        |desk, line| {
-            ordered(desk, line, |list| {
-                let order = |batch: &Batch| (batch.due, batch.arrival, batch.number);
-                list.batches.sort_by_key(order);
-            })
-        },
+        |desk, line| ordered(desk, line, by_arrival),
     ),
     wrong("records in order without their numbers", |desk, line| {
-        ordered(desk, line, |list| {
-            let opening = list.opening;
-            let order = |batch: &Batch| (batch.due, batch.arrival.max(opening));
-            list.batches.sort_by_key(order);
-        })
+        ordered(desk, line, without_numbers)
     }),
     wrong("records by value", |desk, line| {
         asked(Command::Records, desk, line, |desk, _| {
