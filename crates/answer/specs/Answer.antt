@@ -1,9 +1,10 @@
 -- What weekdesk answers where an operation is asked, and where a line is no command: docs/WEEKDESK.md.
-use Rattle.std.specs.Prelude.{ℕ, ◌+◌, List, [], ◌∷◌, ◌++◌, take}
+use Rattle.std.specs.Prelude.{ℕ, ◌+◌, List, [], ◌∷◌, ◌++◌, take, Result, Ok, Err}
 use Rattle.arrays.specs.Text.{bytes}
 use Rattle.week.specs.declared.refusal.Refusal.{Refusal}
 use Rattle.week.specs.Refusal.{answer_by}
 use Rattle.planner.specs.Check.{CheckAnswer}
+use Rattle.planner.specs.declared.choose.Plan.{Plan}
 use Rattle.planner.specs.Choose.{ChooseAnswer}
 use Rattle.planner.specs.Run.{RunAnswer}
 use Rattle.text.specs.Decimal.{decimal}
@@ -15,6 +16,11 @@ use Rattle.answer.specs.Line.{total_line, ran_line, recipes_line, stretches_line
 unfoldable pub plan_text : ℕ → ChooseAnswer → List ℕ
 plan_text n plan =
     answer_by plan.refusal refusal_line (total_line (bytes "plan") plan.total ++ recipes_line (take n plan.choice))
+
+-- the same of a plan or of what refuses, whatever numbers that has
+unfoldable pub told_plan : ℕ → Result Plan Refusal → List ℕ
+told_plan n (Ok plan) = total_line (bytes "plan") plan.total ++ recipes_line (take n plan.choice)
+told_plan n (Err refusal) = refusal_line refusal
 
 -- `check`: ‘`passed TOTAL`, then `stretches S E S E ..`’
 unfoldable pub check_text : ℕ → CheckAnswer → List ℕ
@@ -30,6 +36,11 @@ run_text n ran =
 -- `open`, `add`, `withdraw`: ‘`ok`’
 unfoldable pub ok_text : Refusal → List ℕ
 ok_text refusal = answer_by refusal refusal_line (line_of (bytes "ok") [])
+
+-- the same of a call that changed the book or of what refuses, whatever numbers that has
+unfoldable pub told_call : {A : Type 0} → Result A Refusal → List ℕ
+told_call (Ok done) = line_of (bytes "ok") []
+told_call (Err refusal) = refusal_line refusal
 
 -- ‘is answered `no command: line N`, N counted from 1’
 unfoldable pub no_command_text : ℕ → List ℕ

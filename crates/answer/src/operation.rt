@@ -1,26 +1,36 @@
 // Choose, Check and Run as text, and what the book's calls answer. Each makes a text, puts its lines and answers it: a function over a closure
 // for that would be named beside each closure, for one line less in it.
 ghost use Rattle.std.specs.Prelude.{◌≡◌, length};
-ghost use Rattle.week.specs.Fault.{refusal_of};
-ghost use Rattle.planner.specs.Choose.{choose_answer, chosen_answer, table_after};
+ghost use Rattle.planner.specs.Choose.{choose_answer, table_after};
 ghost use Rattle.planner.specs.Check.{check_answer};
 ghost use Rattle.planner.specs.Run.{run_answer, log_after};
-ghost use Rattle.answer.specs.Answer.{plan_text, check_text, run_text, ok_text, no_command_text};
+ghost use Rattle.text.specs.Line.{refusal_line};
+ghost use Rattle.answer.specs.Answer.{plan_text, told_plan, check_text, run_text, ok_text, told_call, no_command_text};
 
 use crate::fields::each_line;
-use crate::line::{AnswerText, ran_line, total_line};
+pub use crate::line::AnswerText;
+use crate::line::{ran_line, total_line};
 use planner::check::check;
 use planner::choose::{Plan, choose};
 use planner::run::run;
 use week::record::Week;
-use week::refusal::Fault;
+use week::refusal::Refusal;
 
-// `choose`, `records`, `plan`: ‘`plan TOTAL`, then `recipes K K ..`’ of a plan for a list of n batches; or the refusal.
-#[tactic(auto, using(crate::proofs::Answering::said), unfolding(crate::specs::Answer::plan_text, planner::specs::Choose::refused_plan))]
-pub fn plan_text(plan: Result<Plan, Fault>, n: usize) -> AnswerText
-    ensures { result ≡ plan_text n (chosen_answer plan) }
+// ‘A refusal is answered `refused N P R` and nothing else.’
+fn refused(refusal: Refusal) -> AnswerText
+    ensures { result ≡ refusal_line refusal }
 {
-    plan.map_or_else(AnswerText::refused, |plan| {
+    let mut text = AnswerText::new();
+    text.refusal_line(refusal);
+    text
+}
+
+// `choose`, `records`, `plan`: ‘`plan TOTAL`, then `recipes K K ..`’ of a plan for a list of n batches; or the refusal, whatever its numbers.
+#[tactic(auto, unfolding(crate::specs::Answer::told_plan))]
+pub fn plan_text(plan: Result<Plan, Refusal>, n: usize) -> AnswerText
+    ensures { result ≡ told_plan n plan }
+{
+    plan.map_or_else(refused, |plan| {
         let mut text = AnswerText::new();
         total_line(&mut text, b"plan", plan.total);
         each_line(&mut text, b"recipes", &plan.choice[..Week::places(n)]);
@@ -33,7 +43,7 @@ pub fn choose_text(week: Week, table: &mut [u8]) -> AnswerText
     ensures answer { result ≡ plan_text week.count (choose_answer week (length table.old)) }
     ensures table { table.new ≡ table_after week table.old }
 {
-    plan_text(choose(week, table), week.count)
+    plan_text(choose(week, table).map_err(Refusal::from), week.count)
 }
 
 // `check K K ..`: ‘`passed TOTAL`, then `stretches S E S E ..`’; or the refusal.
@@ -63,12 +73,12 @@ pub fn run_text(week: Week, choice: &[u8], log: &mut [u8]) -> AnswerText
     })
 }
 
-// `ok`, or the refusal: what is answered of a call that opens or changes the book.
-#[tactic(auto, using(crate::proofs::Answering::said), unfolding(crate::specs::Answer::ok_text, text::specs::Line::spaced))]
-pub fn ok_text(called: Result<(), Fault>) -> AnswerText
-    ensures { result ≡ ok_text (refusal_of called) }
+// `ok`, or the refusal, whatever its numbers: what is answered of a call that opens or changes the book.
+#[tactic(auto, unfolding(crate::specs::Answer::told_call, text::specs::Line::spaced))]
+pub fn ok_text(called: Result<(), Refusal>) -> AnswerText
+    ensures { result ≡ told_call called }
 {
-    called.map_or_else(AnswerText::refused, |()| {
+    called.map_or_else(refused, |()| {
         let mut text = AnswerText::new();
         text.put(b"ok\n");
         text

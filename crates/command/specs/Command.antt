@@ -1,9 +1,9 @@
 -- Which command a line is: docs/WEEKDESK.md, ‘Lines’.
-use Rattle.std.specs.Prelude.{ℕ, Bool, false, cond, Option, None, Some, List, [], ◌∷◌, length, eqb, ltb}
+use Rattle.std.specs.Prelude.{ℕ, Bool, false, cond, Option, None, Some, List, [], ◌∷◌, length, take, eqb, ltb}
 use Rattle.std.specs.Option.{option_map, option_and_then}
 use Rattle.lent.specs.Size.{max_table, max_log}
 use Rattle.words.specs.declared.line.Line.{Line}
-use Rattle.words.specs.Line.{max_line, bytes_of}
+use Rattle.words.specs.Line.{max_line}
 use Rattle.words.specs.Word.{words_of}
 use Rattle.words.specs.declared.numbers.Numbers.{Numbers}
 use Rattle.words.specs.Numbers.{numbers_of}
@@ -69,4 +69,4 @@ command_in line =
 
 -- of a line as it is held
 unfoldable pub command_of : Line → Option Command
-command_of line = command_in (bytes_of line)
+command_of line = command_in (take line.len line.bytes)

@@ -8,7 +8,7 @@ use Rattle.arrays.specs.Text.{bytes, space}
 use Rattle.week.specs.declared.record.Recipe.{Recipe}
 use Rattle.week.specs.declared.record.Batch.{Batch}
 use Rattle.week.specs.Record.{max_recipes, no_recipe}
-use Rattle.words.specs.Line.{no_line, with_bytes}
+use Rattle.words.specs.Line.{no_line, with_byte, with_bytes}
 use Rattle.words.specs.Word.{joined, parts_of, some_bytes, words_of}
 use Rattle.words.specs.Number.{are_digits, is_number, number_of}
 use Rattle.words.specs.Numbers.{are_numbers, numbers_of}
@@ -32,7 +32,7 @@ abbrev batch_numbers : Batch → List ℕ
 batch_numbers b = b.number ∷ b.arrival ∷ b.due ∷ b.count ∷ flatten (map recipe_numbers b.recipes)
 
 abbrev choice_numbers : Choice → List ℕ
-choice_numbers choice = choice.recipes.items
+choice_numbers choice = choice.recipes
 
 abbrev command_numbers : Command → List ℕ
 command_numbers Nothing = 0 ∷ []
@@ -185,7 +185,7 @@ table =
 
 examples : agree table ≡ true
 unfolding
-    table same agree flatten with_bytes joined parts_of some_bytes words_of are_digits is_number number_of are_numbers numbers_of
+    table same agree flatten with_byte with_bytes joined parts_of some_bytes words_of are_digits is_number number_of are_numbers numbers_of
     name_among name_of shown show_command batch_from given_batch lends_up_to given_memory are_bytes is_choice given_choice
     named by_words is_comment command_in command_of
 examples = refl

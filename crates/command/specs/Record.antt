@@ -4,7 +4,7 @@ use Rattle.command.specs.declared.command.Choice.{Choice}
 
 -- the choice of some recipes
 abbrev pub choice_of : List ℕ → Choice
-choice_of recipes = record { recipes = record { items = recipes } }
+choice_of recipes = record { recipes = recipes }
 
 -- a value where a test holds; none where it does not
 abbrev pub some_if : {A : Type 0} → Bool → A → Option A

@@ -1,12 +1,12 @@
 // The commands of weekdesk.
-use arrayvec::ArrayVec;
+use text::Bytes;
 use week::record::Batch;
 use words::numbers::MAX_KEPT;
 
 // A choice, as it is handed in: the recipe of each batch.
-#[derive(Drop, Clone, Debug, PartialEq, Eq)]
+#[derive(Clone, Copy, Debug, PartialEq, Eq)]
 pub struct Choice {
-    pub recipes: ArrayVec<u8, MAX_KEPT>,
+    pub recipes: Bytes<MAX_KEPT>,
 }
 
 // What is lent, a picks table or a log: so many bytes, each of them the value.
@@ -17,7 +17,7 @@ pub struct Lent {
 }
 
 // What a line asks for.
-#[derive(Drop, Clone, Debug, PartialEq, Eq)]
+#[derive(Clone, Copy, Debug, PartialEq, Eq)]
 pub enum Command {
     // An empty line, or a comment.
     Nothing,

@@ -83,10 +83,10 @@ fn command_in(line: &[u8]) -> Option<Command>
     command_named(name_of(word)?, words.rest)
 }
 
-// The command that a line is, or none. The answer on every line.
-#[tactic(auto, unfolding(crate::specs::Command::command_of))]
+// The command that a line is, or none. The answer on every line, also where its length is beyond its bytes.
+#[tactic(auto, using(std::proofs::lemmas::List::take_min), unfolding(crate::specs::Command::command_of))]
 pub fn command_of(line: &Line) -> Option<Command>
     ensures { result ≡ command_of line.now }
 {
-    command_in(&line.bytes)
+    command_in(&line.bytes[..line.len.min(line.bytes.len())])
 }

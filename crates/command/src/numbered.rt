@@ -5,7 +5,7 @@ ghost use Rattle.words.specs.Numbers.{max_kept};
 ghost use Rattle.command.specs.Numbered.{exactly, given_batch, given_memory, given_choice};
 
 use crate::command::{Choice, Command, Lent};
-use arrayvec::ArrayVec;
+use text::Bytes;
 use week::record::{Batch, Recipe};
 use words::numbers::Numbers;
 
@@ -73,7 +73,7 @@ pub(crate) fn given_choice(numbers: Numbers) -> Option<Choice>
     ensures { result ≡ given_choice numbers }
 {
     let given = numbers.values.get(..numbers.count)?;
-    let mut recipes = ArrayVec::new();
+    let mut recipes = Bytes::new();
     for &value in given {
         recipes.push(u8::try_from(value).ok()?);
     }

@@ -7,7 +7,6 @@ use mathlib.Core.List.{List, [], ◌∷◌}
 use lib.ListN.{take}
 use lib.Dec.{eqb}
 use borrow.Author.Tests.{le-leb}
-use Rattle.std.specs.Prelude.{Some}
 use Rattle.edf.specs.declared.outcome.Outcome.TheVariants.{Finished}
 use Rattle.edf.specs.Run.{entries, log_of, minutes_before, up_to_last, outcome_of}
 use Rattle.edf.proofs.Logs.{entries-take}
@@ -32,7 +31,7 @@ last_within j (suc d) (x ∷ log) all = up_to_last_next j x log d (last_within j
 
 pub finished_by : (n : ℕ) (ready minutes : ℕ → ℕ) (t w e j : ℕ) → 1 ≤ j → t ≤ e →
     minutes_before e t (log_of n ready minutes t w) j ≡ minutes j →
-    (f : ℕ) × (outcome_of (Some (minutes j)) t (log_of n ready minutes t w) j ≡ Finished f) × (f ≤ e)
+    (f : ℕ) × (outcome_of false (minutes j) t (log_of n ready minutes t w) j ≡ Finished f) × (f ≤ e)
 unfolding minutes_before outcome_of
 finished_by n ready minutes t w e j low after got =
     let log = log_of n ready minutes t w in

@@ -1,4 +1,4 @@
--- Scans of a log: what is left of its changes from some entry on, and where the last entry of a job stands.
+-- Scans of a log: what is left of its entries and changes from some place on, and where the last entry of a job stands.
 use Prim.Native.Nat.{ℕ, zero, suc, ◌+◌, ◌≤◌, ◌<◌}
 use native.Mathlib.Omega.{arith}
 use mathlib.Core.Path.{◌≡◌, refl}
@@ -8,7 +8,17 @@ use lib.ListN.{length, get_or, drop}
 use lib.Dec.{eqb}
 use borrow.Author.Tests.{eq-eqb, ne_eqb}
 use Rattle.std.proofs.lemmas.List.{at_drop_more, at_drop_all}
-use Rattle.edf.specs.Run.{changes_after, up_to_last}
+use Rattle.edf.specs.Run.{entries, changes_after, up_to_last}
+
+-- entry m among the entries that are left to count, and none at the end
+pub entries_more : (j : ℕ) (log : List ℕ) (m : ℕ) → m < length log →
+    entries j (drop m log) ≡ cond (eqb (get_or log m 0) j) 1 0 + entries j (drop (m + 1) log)
+unfolding entries
+entries_more j log m more = at_drop_more (entries j) log m 0 more
+
+pub entries_done : (j : ℕ) (log : List ℕ) (m : ℕ) → length log ≤ m → entries j (drop m log) ≡ 0
+unfolding entries
+entries_done j log m over = at_drop_all (entries j) log m over
 
 -- entry m of the changes that are left, and none at the end
 pub changes_more : (p : ℕ) (log : List ℕ) (m : ℕ) → m < length log →

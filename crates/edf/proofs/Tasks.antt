@@ -17,7 +17,7 @@ use Rattle.std.proofs.lemmas.List.Sums.{fails_before_first}
 use Rattle.arrays.proofs.Stores.{set_each}
 use Rattle.edf.specs.declared.workload.Task.{Task}
 use Rattle.edf.specs.Run.{Reads}
-use Rattle.edf.specs.Workload.{no_task, left_of, is_pending, ready_in, left_in}
+use Rattle.edf.specs.Workload.{no_task, is_pending, ready_in, left_in}
 use Rattle.edf.proofs.Pending.{pending_true, true_pending, none_pending, next_passed, next_pending}
 
 -- the entry of the log for the index that is found: positions count from 1, and 0 is idle
@@ -44,7 +44,7 @@ module _ (tasks : List Task) (m n : ℕ) (within : n ≤ length tasks) where
   length_first = omega (arith, length-take n tasks)
 
   pub found_pending : (i : ℕ) → Some i ≡ position (is_pending m) first →
-      (i < n) × ((get_or tasks i no_task).ready ≤ m) × (1 ≤ left_of (get_or tasks i no_task))
+      (i < n) × ((get_or tasks i no_task).ready ≤ m) × (1 ≤ (get_or tasks i no_task).minutes)
   found_pending i found =
       let at = position-Some (is_pending m) first i no_task (sym found) in
       let inside : i < n = omega (arith, at.0, length_first) in
@@ -82,12 +82,12 @@ module _ (tasks : List Task) where
   abbrev read_once : ℕ → Task
   read_once i =
       let task = get_or tasks i no_task in
-      record { ready = task.ready; minutes = Some (left_of task - 1) }
+      record { ready = task.ready; minutes = task.minutes - 1; aside = task.aside }
 
   abbrev Read : ℕ → ℕ → Task → Type 0
   Read i k task =
       let before = get_or tasks k no_task in
-      (task.ready ≡ before.ready) × (left_of task ≡ left_of before - cond (eqb (i + 1) (suc k)) 1 0)
+      (task.ready ≡ before.ready) × (task.minutes ≡ before.minutes - cond (eqb (i + 1) (suc k)) 1 0)
 
   spent_at : (i : ℕ) → i < length tasks → (k : ℕ) → Read i k (get_or (set tasks i (read_once i)) k no_task)
   spent_at i inside =

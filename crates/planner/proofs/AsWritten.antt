@@ -3,12 +3,11 @@
 use Prim.Native.Nat.{ℕ, zero, suc, ◌≤◌, ◌<◌}
 use native.Mathlib.Omega.{arith}
 use mathlib.Core.Path.{◌≡◌, refl, sym, ap, ◌∙◌}
-use mathlib.Core.Bool.{cond}
 use mathlib.Core.List.{List}
 use lib.ListN.{get_or}
 use lib.Dec.{eqb}
 use borrow.Author.Tests.{eqb-true}
-use Rattle.std.specs.Prelude.{Option, Some, None, unwrap_or}
+use Rattle.std.specs.Prelude.{Option, is_none, unwrap_or}
 use Rattle.arrays.specs.Position.{at_position, backward}
 use Rattle.arrays.specs.Sum.{sum_to}
 use Rattle.arrays.proofs.Cases.{cond_cases}
@@ -17,7 +16,7 @@ use Rattle.jobs.specs.declared.model.Version.{Version}
 use Rattle.jobs.specs.declared.model.Job.{Job}
 use Rattle.jobs.specs.Model.{no_job, version_of, version_at, minutes_of}
 use Rattle.jobs.specs.Choice.{total}
-use Rattle.edf.specs.Workload.{ready_at, minutes_at, given_at}
+use Rattle.edf.specs.Workload.{ready_at, minutes_at, aside_at}
 use Rattle.week.specs.declared.record.Recipe.{Recipe}
 use Rattle.week.specs.Record.{Week, max_recipes, no_recipe, batch_at, batch_of, ready_of}
 use Rattle.week.specs.Ordered.{ordered_week}
@@ -30,6 +29,9 @@ use Rattle.planner.proofs.Jobs.{version_at_lem, job_at_lem}
 pub recipe_minutes : (r : Recipe) → minutes_of (recipe_version r) ≡ r.cost
 recipe_minutes r =
     cond_cases (λ (minutes : Option ℕ). unwrap_or minutes 0 ≡ r.cost) (eqb r.cost 0) (λ e. sym (eqb-true r.cost 0 e)) (λ e. refl)
+
+recipe_aside : (r : Recipe) → is_none (recipe_version r).minutes ≡ eqb r.cost 0
+recipe_aside r = cond_cases (λ (minutes : Option ℕ). is_none minutes ≡ eqb r.cost 0) (eqb r.cost 0) sym sym
 
 module _ (w : Week) (sound : Sound (ordered_week w)) where
   pub job_written : (i : ℕ) → 1 ≤ i → i ≤ w.count →
@@ -56,9 +58,9 @@ module _ (w : Week) (sound : Sound (ordered_week w)) where
     pub minutes_written : (i : ℕ) → 1 ≤ i → i ≤ w.count → minutes_at (job_list_of w) choice i ≡ chosen_minutes w choice i
     minutes_written i low high = ap minutes_of (version_written i low high) ∙ recipe_minutes (chosen_recipe w choice i)
 
-    pub given_written : (i : ℕ) → 1 ≤ i → i ≤ w.count →
-        given_at (job_list_of w) choice i ≡ cond (eqb (chosen_minutes w choice i) 0) None (Some (chosen_minutes w choice i))
-    given_written i low high = ap (λ (v : Version). v.minutes) (version_written i low high)
+    pub aside_written : (i : ℕ) → 1 ≤ i → i ≤ w.count → aside_at (job_list_of w) choice i ≡ eqb (chosen_minutes w choice i) 0
+    aside_written i low high =
+        ap (λ (v : Version). is_none v.minutes) (version_written i low high) ∙ recipe_aside (chosen_recipe w choice i)
 
     -- the total of a choice is the sum of the worths
     total_to : (n : ℕ) → n ≤ w.count →

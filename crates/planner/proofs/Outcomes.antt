@@ -1,11 +1,11 @@
 -- What Run answers of the log that it leaves: the outcome at each position, by the records, and of a choice that meets the rule.
 use Prim.Native.Nat.{ℕ, suc, ◌≤◌}
 use native.Mathlib.Omega.{arith}
-use mathlib.Core.Path.{◌≡◌, refl, sym, ap, ◌∙◌}
-use mathlib.Core.Bool.{true}
+use mathlib.Core.Path.{◌≡◌, sym, ap, ap₂, ◌∙◌}
+use mathlib.Core.Bool.{Bool, true, false}
 use mathlib.Core.List.{List, [], ◌∷◌, ◌++◌}
 use lib.ListN.{drop}
-use Rattle.std.specs.Prelude.{Option, Some, None, unwrap_or}
+use borrow.Author.Tests.{ne_eqb}
 use Rattle.arrays.specs.Position.{at_position}
 use Rattle.arrays.specs.Made.{tabulate}
 use Rattle.arrays.proofs.Tabulates.{length_tabulate, position_padded}
@@ -14,7 +14,7 @@ use Rattle.jobs.specs.Rule.{meets}
 use Rattle.jobs.specs.Stretches.{stretch_at}
 use Rattle.edf.specs.declared.outcome.Outcome.{Outcome}
 use Rattle.edf.specs.Run.{entries, idle, changes, outcome_of, outcome_numbers}
-use Rattle.edf.specs.Workload.{ready_at, minutes_at, given_at, choice_log, workload_of, outcome_at}
+use Rattle.edf.specs.Workload.{ready_at, minutes_at, aside_at, choice_log, workload_of, outcome_at}
 use Rattle.edf.proofs.OutcomeNumbers.{outcome_numbers_lem}
 use Rattle.edf.proofs.Workloads.{workload_outcome}
 use Rattle.edf.proofs.InTime.{stretch_in, choice_in_time}
@@ -25,19 +25,14 @@ use Rattle.judge.proofs.Sound.{Sound, Named}
 use Rattle.planner.specs.Job.{job_list_of, week_jobs, week_choice}
 use Rattle.planner.specs.Written.{chosen_minutes}
 use Rattle.planner.specs.Run.{RunAnswer, week_log, set_aside, log_answer, outcome_said, LogSays}
-use Rattle.planner.proofs.AsWritten.{minutes_written, given_written}
+use Rattle.planner.proofs.AsWritten.{minutes_written, aside_written}
 use Rattle.planner.proofs.Station.{take_week, feasible}
-
--- what has minutes to read is given them
-given_some : (given : Option ℕ) → 1 ≤ unwrap_or given 0 → given ≡ Some (unwrap_or given 0)
-given_some (Some m) some = refl
-given_some None some = absurd (omega arith)
 
 module _ (w : Week) (sound : Sound (ordered_week w)) (choice : List ℕ) (named : Named (ordered_week w) choice) (log : List ℕ) where
   -- the answer's place at position i
   place_at : (i : ℕ) → 1 ≤ i → i ≤ w.count →
       at_position set_aside (log_answer (workload_of (job_list_of w) choice) w.opening log).batches i
-      ≡ outcome_of (given_at (job_list_of w) choice i) w.opening log i
+      ≡ outcome_of (aside_at (job_list_of w) choice i) (minutes_at (job_list_of w) choice i) w.opening log i
   unfolding log_answer workload_of
   place_at i low high =
       position_padded max_batches set_aside (outcome_at (workload_of (job_list_of w) choice) w.opening log) w.count i low high
@@ -48,17 +43,18 @@ module _ (w : Week) (sound : Sound (ordered_week w)) (choice : List ℕ) (named 
       ≡ outcome_said w choice log i
   said_at i low high =
       ap outcome_numbers (place_at i low high)
-      ∙ ap (λ (given : Option ℕ). outcome_numbers (outcome_of given w.opening log i)) (given_written w sound named i low high)
+      ∙ ap₂ (λ (aside : Bool) (m : ℕ). outcome_numbers (outcome_of aside m w.opening log i))
+      (aside_written w sound named i low high) (minutes_written w sound named i low high)
       ∙ outcome_numbers_lem _ _ w.opening log i
 
   -- a batch that is read has the outcome of its minutes
   read_at_lem : (i : ℕ) → 1 ≤ i → i ≤ w.count → 1 ≤ chosen_minutes w choice i →
       at_position set_aside (log_answer (workload_of (job_list_of w) choice) w.opening log).batches i
-      ≡ outcome_of (Some (minutes_at (job_list_of w) choice i)) w.opening log i
+      ≡ outcome_of false (minutes_at (job_list_of w) choice i) w.opening log i
   read_at_lem i low high some =
       place_at i low high
-      ∙ ap (λ (given : Option ℕ). outcome_of given w.opening log i)
-      (given_some (given_at (job_list_of w) choice i) (omega (arith, minutes_written w sound named i low high)))
+      ∙ ap (λ (aside : Bool). outcome_of aside (minutes_at (job_list_of w) choice i) w.opening log i)
+      (aside_written w sound named i low high ∙ ne_eqb (chosen_minutes w choice i) 0 (λ z. omega arith))
 
 module _ (w : Week) (sound : Sound (ordered_week w)) (choice : List ℕ) (named : Named (ordered_week w) choice) where
   -- the answer by the log

@@ -3,6 +3,7 @@ ghost use Rattle.std.specs.Prelude.{◌≡◌};
 ghost use Rattle.planner.specs.Job.{recipe_version, job_from, listed_jobs};
 
 use jobs::model::{Job, JobList, Version};
+use std::array;
 use week::record::{Batch, Recipe, Week};
 
 // A recipe as a version. No `From`, here and below: neither type is of this crate.
@@ -22,7 +23,7 @@ fn job_of(opening: u16, b: Batch) -> Job
         ready: b.ready(opening),
         due: b.due,
         count: b.count,
-        versions: b.recipes.map(version_of),
+        versions: array::from_fn(|k| version_of(b.recipes[k])),
     }
 }
 
@@ -30,9 +31,13 @@ fn job_of(opening: u16, b: Batch) -> Job
 pub fn jobs_of(week: Week) -> JobList
     ensures { result ≡ listed_jobs week }
 {
-    let opening = week.opening;
+    // By number: `map` and `from_fn` were tried, and copy the whole array once more.
+    let mut jobs = [job_of(0, Batch::empty()); Week::MAX_BATCHES];
+    for (i, &batch) in week.batches.iter().enumerate() {
+        jobs[i] = job_of(week.opening, batch);
+    }
     JobList {
         count: week.count,
-        jobs: week.batches.map(|b| job_of(opening, b)),
+        jobs,
     }
 }

@@ -49,7 +49,7 @@ fn read_log(work: Workload, opening: u16, log: &[u8]) -> WeekRun
     // its closure for the places beyond the count too, with a test of the count in it.
     for (i, task) in work.tasks[..work.count].iter().enumerate() {
         // A position is at most 16: `try_from` would test what is proved.
-        batches[i] = outcome_of(task.minutes, opening, log, (i + 1) as u8);
+        batches[i] = outcome_of(task.aside, task.minutes, opening, log, (i + 1) as u8);
     }
     // The log ends at a minute that 16 bits hold, and so they hold each count of its minutes: `try_from` would test what is proved.
     WeekRun {

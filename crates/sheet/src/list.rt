@@ -45,15 +45,18 @@ pub(crate) fn week_of(sheet: &[u8]) -> Week
     let mut lines = sheet.split_inclusive(ends_line);
     let first = lines.next().unwrap();
     let mut batches = [Batch::empty(); Week::MAX_BATCHES];
+    let mut count = 0;
     // Stored by number: after a `zip` with what is written a proof knows none of its entries.
-    for (place, line) in lines.take(Week::MAX_BATCHES).enumerate() {
-        batches[place] = batch_of(line);
+    for (place, line) in lines.enumerate() {
+        if place < Week::MAX_BATCHES {
+            batches[place] = batch_of(line);
+        }
+        count = place + 1;
     }
     Week {
         opening: word_at(first, 1),
         closing: word_at(first, 3),
-        // Cut once more: a `clone` of the lines that are left is a `Result`.
-        count: sheet.split_inclusive(ends_line).count() - 1,
+        count,
         batches,
     }
 }

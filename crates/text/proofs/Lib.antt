@@ -1,3 +1,4 @@
 pub mod Decimals
 pub mod Numerals
 pub mod Spacing
+pub mod Zeros

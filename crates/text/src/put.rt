@@ -4,16 +4,16 @@ ghost use Rattle.arrays.specs.Text.{space};
 ghost use Rattle.text.specs.Decimal.{decimal};
 ghost use Rattle.text.specs.Line.{named, spaced};
 
+use crate::fixed::Bytes;
 use crate::number::Number;
-use arrayvec::ArrayVec;
 use itoa::Buffer;
 use std::marker::Model;
 
 // A text of at most `N` bytes. A clause sees it as the list of its bytes. Each method asks for the room of what it puts, by its part:
 // a caller's proof adds parts up, and no struct has to say how much room is left.
-#[derive(Clone, Debug, PartialEq, Eq, Drop)]
+#[derive(Clone, Copy, Debug, PartialEq, Eq)]
 pub struct Text<const N: usize> {
-    bytes: ArrayVec<u8, N>,
+    bytes: Bytes<N>,
 }
 
 impl<const N: usize> Model for Text<N> {
@@ -21,10 +21,10 @@ impl<const N: usize> Model for Text<N> {
 
     ghost Value = { List ℕ };
 
-    ghost view = { λ text. text.bytes.items };
+    ghost view = { λ text. text.bytes };
 
-    // The field again, which the derived `==` reads.
-    ghost inverse = { λ bytes. record { bytes = record { items = bytes } } };
+    // The field again, which a copy and the derived `==` read.
+    ghost inverse = { λ bytes. record { bytes = bytes } };
 }
 
 impl<const N: usize> Text<N> {
@@ -32,7 +32,7 @@ impl<const N: usize> Text<N> {
         ensures { result ≡ [] }
     {
         Text {
-            bytes: ArrayVec::new(),
+            bytes: Bytes::new(),
         }
     }
 
@@ -48,7 +48,7 @@ impl<const N: usize> Text<N> {
         requires { length self.old + length part.now ≤ N }
         ensures { self.new ≡ self.old ++ part.now }
     {
-        self.bytes.try_extend_from_slice(part).unwrap();
+        self.bytes.extend(part);
     }
 
     // A number in decimal.

@@ -14,6 +14,7 @@ use draft::record::{Draft, of_week, week_of, with_batch};
 use lent::shown::shown_text;
 use records::choose::choose_records;
 use std::io;
+use week::refusal::Refusal;
 
 impl<'a, P: Print> Desk<'a, P> {
     fn choose(&mut self) -> io::Result<()> {
@@ -34,15 +35,16 @@ impl<'a, P: Print> Desk<'a, P> {
             self.table.lent_mut(),
         );
         self.draft.batches = batches;
-        self.answer(&plan_text(planned, kept))
+        self.answer(&plan_text(planned.map_err(Refusal::from), kept))
     }
 
     fn check(&self, choice: Choice) -> io::Result<()> {
-        self.answer(&check_text(week_of(self.draft), &choice.recipes))
+        self.answer(&check_text(week_of(self.draft), choice.recipes.as_slice()))
     }
 
     fn run(&mut self, choice: Choice) -> io::Result<()> {
-        let text = run_text(week_of(self.draft), &choice.recipes, self.log.lent_mut());
+        let recipes = choice.recipes.as_slice();
+        let text = run_text(week_of(self.draft), recipes, self.log.lent_mut());
         self.answer(&text)
     }
 
@@ -63,7 +65,7 @@ impl<'a, P: Print> Desk<'a, P> {
     // `open`, `add`, `withdraw`: the book that the call hands back, and `ok` or the refusal.
     fn keep(&mut self, answered: Answered<()>) -> io::Result<()> {
         self.book = answered.book;
-        self.answer(&ok_text(answered.result))
+        self.answer(&ok_text(answered.result.map_err(Refusal::from)))
     }
 
     // `plan`: as `choose`, of the list that the book holds.
@@ -71,7 +73,7 @@ impl<'a, P: Print> Desk<'a, P> {
         let count = self.book.list.count;
         let planned = book::plan::plan(self.book, self.table.lent_mut());
         self.book = planned.book;
-        self.answer(&plan_text(planned.result, count))
+        self.answer(&plan_text(planned.result.map_err(Refusal::from), count))
     }
 
     // The command that the line is.

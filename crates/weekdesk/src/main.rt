@@ -7,20 +7,22 @@ mod help;
 mod memory;
 
 use crate::desk::Desk;
+use std::io;
 use std::io::Read;
-use std::{io, mem};
 use words::line::extended;
 
 // How much is read at once.
 const PIECE: usize = 4096;
 
-// Every line that ends in a piece of the input.
+// Every line that ends in a piece of the input. Where the next one starts is what `extended` answers: no line feed is looked for here.
+#[tactic(auto, using(words::proofs::Further::less_left))]
 fn take<P: Print>(desk: &mut Desk<'_, P>, piece: &[u8]) -> io::Result<()> {
-    for part in piece.split_inclusive(|b| *b == b'\n') {
-        let line = mem::take(&mut desk.line);
-        let more = extended(line, part, 0);
+    let mut from = 0;
+    while from < piece.len() {
+        let more = extended(desk.line, piece, from);
         desk.line = more.line;
-        if more.next.is_some() {
+        from = more.next;
+        if more.ended {
             desk.obey()?;
         }
     }

@@ -60,7 +60,8 @@ rest_of piece from = take_rest piece (min from (length piece)) ∙ drop_min from
 
 module _ (line : Line) (piece : List ℕ) (from : ℕ) where
   pub extended_first : (len : ℕ) → Some len ≡ position (λ b. eqb b line_feed) (drop from piece) →
-      extended_by line piece from ≡ record { line = with_bytes line (take len (drop from piece)); next = Some (from + len + 1) }
+      extended_by line piece from
+      ≡ record { line = with_bytes line (take len (drop from piece)); next = from + len + 1; ended = true }
   unfolding extended_by
   extended_first len is =
       let rest = drop from piece in
@@ -70,7 +71,8 @@ module _ (line : Line) (piece : List ℕ) (from : ℕ) where
       rw (has_one rest (omega (arith, at.0, at.1)), before, next)
 
   pub extended_all : None ≡ position (λ b. eqb b line_feed) (drop from piece) →
-      extended_by line piece from ≡ record { line = with_bytes line (drop from piece); next = None }
+      extended_by line piece from
+      ≡ record { line = with_bytes line (drop from piece); next = from + length (drop from piece); ended = false }
   unfolding extended_by
   extended_all is =
       let rest = drop from piece in

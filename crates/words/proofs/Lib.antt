@@ -6,3 +6,4 @@ pub mod NextWords
 pub mod Spelling
 pub mod Decimals
 pub mod Numbering
+pub mod Further

@@ -1,12 +1,12 @@
 -- Lines, words and numbers at the corners of what a line may be, computed from the definitions: one table, one claim.
-use Rattle.std.specs.Prelude.{ℕ, ◌≡◌, refl, true, Option, None, Some, length, take, drop, replicate}
+use Rattle.std.specs.Prelude.{ℕ, ◌≡◌, refl, true, cond, Option, None, Some, take, drop, replicate}
 use Prim.Native.String.{String}
 use mathlib.Core.List.{List, [], ◌∷◌, ◌++◌, map, flatten}
 use Rattle.arrays.specs.Example.{Example, ◌is◌, same, agree}
 use Rattle.arrays.specs.Text.{bytes}
 use Rattle.words.specs.declared.numbers.Numbers.{Numbers}
 use Rattle.words.specs.declared.line.Extension.{Extension}
-use Rattle.words.specs.Line.{no_line, bytes_of, with_bytes, before_feed, has_feed, extended_by}
+use Rattle.words.specs.Line.{no_line, with_byte, with_bytes, before_feed, has_feed, extended_by}
 use Rattle.words.specs.Word.{joined, parts_of, some_bytes, words_of}
 use Rattle.words.specs.Number.{are_digits, is_number, number_of}
 use Rattle.words.specs.Numbers.{are_numbers, numbers_of}
@@ -32,14 +32,9 @@ kept None = 0 ∷ 0 ∷ []
 abbrev numbers_from : String → ℕ → List ℕ
 numbers_from line at = kept (numbers_of (words_of (drop at (bytes line))))
 
--- where the next line starts: 1 and the index; 0 where this one has not ended
-abbrev start_of : Option ℕ → List ℕ
-start_of (Some next) = 1 ∷ next ∷ []
-start_of None = 0 ∷ []
-
--- a line of which some has come, after a piece from an index on: where the next one starts, and its bytes
+-- a line of which some has come, after a piece from an index on: where the next one starts, 1 if it has ended, and its bytes
 abbrev came : Extension → List ℕ
-came e = start_of e.next ++ bytes_of e.line
+came e = e.next ∷ cond e.ended 1 0 ∷ take e.line.len e.line.bytes
 
 abbrev extending : String → String → ℕ → List ℕ
 extending begun piece from = came (extended_by (with_bytes no_line (bytes begun)) (bytes piece) from)
@@ -68,18 +63,18 @@ table =
     ∷ (numbers_from "run 1 x 1" 3 is (0 ∷ 0 ∷ []))
     ∷ (kept (numbers_of (replicate 300 (bytes "2"))) is (1 ∷ 300 ∷ replicate 255 2))
     -- pieces: a line in one of them, the next line of the same piece, a line in two of them, and a piece that is over
-    ∷ (extending "" "choose\nlist\n" 0 is (1 ∷ 7 ∷ bytes "choose"))
-    ∷ (extending "" "choose\nlist\n" 7 is (1 ∷ 12 ∷ bytes "list"))
-    ∷ (extending "cho" "ose\n" 0 is (1 ∷ 4 ∷ bytes "choose"))
-    ∷ (extending "cho" "o" 0 is (0 ∷ bytes "choo"))
+    ∷ (extending "" "choose\nlist\n" 0 is (7 ∷ 1 ∷ bytes "choose"))
+    ∷ (extending "" "choose\nlist\n" 7 is (12 ∷ 1 ∷ bytes "list"))
+    ∷ (extending "cho" "ose\n" 0 is (4 ∷ 1 ∷ bytes "choose"))
+    ∷ (extending "cho" "o" 0 is (1 ∷ 0 ∷ bytes "choo"))
     ∷ (extending "choose" "\n" 0 is (1 ∷ 1 ∷ bytes "choose"))
-    ∷ (extending "choose" "ignored" 7 is (0 ∷ bytes "choose"))
+    ∷ (extending "choose" "ignored" 7 is (7 ∷ 0 ∷ bytes "choose"))
     -- a line that is longer than the longest: one byte more is held
-    ∷ (length (bytes_of (with_bytes no_line (replicate 5000 65))) ∷ [] is (4097 ∷ []))
+    ∷ ((with_bytes no_line (replicate 5000 65)).len ∷ [] is (4097 ∷ []))
     ∷ []
 
 examples : agree table ≡ true
 unfolding
-    table same agree flatten with_bytes before_feed has_feed extended_by joined parts_of some_bytes words_of
+    table same agree flatten with_byte with_bytes before_feed has_feed extended_by joined parts_of some_bytes words_of
     are_digits is_number number_of are_numbers numbers_of
 examples = refl

@@ -1,5 +1,5 @@
 -- Lines that come in pieces: docs/WEEKDESK.md, ‘Lines’: ‘A line is words with spaces between them, ended by a line feed’.
-use Rattle.std.specs.Prelude.{ℕ, suc, ◌+◌, ◌-◌, Bool, true, false, cond, None, Some, List, [], ◌∷◌, ◌++◌, length, take, drop, eqb}
+use Rattle.std.specs.Prelude.{ℕ, suc, ◌+◌, Bool, true, false, cond, List, [], ◌∷◌, length, drop, set, replicate, eqb, ltb}
 use Rattle.arrays.specs.Text.{line_feed}
 use Rattle.words.specs.declared.line.Line.{Line}
 use Rattle.words.specs.declared.line.Extension.{Extension}
@@ -12,19 +12,16 @@ max_line = 4096
 abbrev pub held : ℕ
 held = suc max_line
 
--- the line that holds some bytes; the bytes of a line
-abbrev pub holding : List ℕ → Line
-holding bs = record { bytes = record { items = bs } }
-
-abbrev pub bytes_of : Line → List ℕ
-bytes_of line = line.bytes.items
-
 abbrev pub no_line : Line
-no_line = holding []
+no_line = record { bytes = replicate held 0; len = 0 }
 
--- a line with as many more bytes as there is room for
+-- a line with one byte more, where there is room for it, and with several
+unfoldable pub with_byte : Line → ℕ → Line
+with_byte line b = cond (ltb line.len held) (record { bytes = set line.bytes line.len b; len = suc line.len }) line
+
 unfoldable pub with_bytes : Line → List ℕ → Line
-with_bytes line bs = holding (bytes_of line ++ take (held - length (bytes_of line)) bs)
+with_bytes line [] = line
+with_bytes line (b ∷ bs) = with_bytes (with_byte line b) bs
 
 -- the bytes before the first line feed; whether there is one
 unfoldable pub before_feed : List ℕ → List ℕ
@@ -35,11 +32,12 @@ unfoldable pub has_feed : List ℕ → Bool
 has_feed [] = false
 has_feed (b ∷ bs) = cond (eqb b line_feed) true (has_feed bs)
 
--- a line with what a piece has of it from an index on: where it has ended, the next line starts after the line feed
+-- a line with what a piece has of it from an index on: the next line starts after the line feed, or with the next piece
 unfoldable pub extended_by : Line → List ℕ → ℕ → Extension
 extended_by line piece from =
     let rest = drop from piece in
     record {
       line = with_bytes line (before_feed rest);
-      next = cond (has_feed rest) (Some (suc (from + length (before_feed rest)))) None;
+      next = cond (has_feed rest) (suc (from + length (before_feed rest))) (from + length (before_feed rest));
+      ended = has_feed rest;
     }

@@ -3,7 +3,8 @@ ghost use Rattle.std.specs.Prelude.{◌≡◌};
 ghost use Rattle.words.specs.Line.{no_line, with_bytes, extended_by};
 
 use crate::place::first_place;
-use arrayvec::ArrayVec;
+
+pub const LINE_FEED: u8 = b'\n';
 
 // The longest line that is read, its line feed not counted.
 pub const MAX_LINE: usize = 4096;
@@ -11,10 +12,12 @@ pub const MAX_LINE: usize = 4096;
 // What is held of a line: one byte more than the longest, so that a longer one is told from it.
 const HELD: usize = MAX_LINE + 1;
 
-// The first bytes of a line, as far as they have come.
-#[derive(Drop, Clone, Debug, PartialEq, Eq)]
+// The first bytes of a line, as far as they have come. A length beside an array, and any length: a list of at most so many bytes would ask
+// more of whoever makes a line.
+#[derive(Clone, Copy, Debug, PartialEq, Eq)]
 pub struct Line {
-    pub bytes: ArrayVec<u8, HELD>,
+    pub bytes: [u8; HELD],
+    pub len: usize,
 }
 
 // By `empty`, of which a clause says what it holds.
@@ -31,26 +34,29 @@ impl Line {
         ensures { result ≡ no_line }
     {
         Line {
-            bytes: ArrayVec::new(),
+            bytes: [0; HELD],
+            len: 0,
         }
     }
 
     // With as many more bytes as there is room for.
-    #[tactic(auto, using(std::proofs::lemmas::List::take_min), unfolding(crate::specs::Line::with_bytes))]
     fn with_bytes(mut self, bytes: &[u8]) -> Line
         ensures { result ≡ with_bytes self bytes.now }
     {
-        let fits = self.bytes.remaining_capacity().min(bytes.len());
-        self.bytes.try_extend_from_slice(&bytes[..fits]).unwrap();
+        let at = self.len.min(HELD);
+        let fits = bytes.len().min(HELD - at);
+        self.bytes[at..at + fits].copy_from_slice(&bytes[..fits]);
+        self.len += fits;
         self
     }
 }
 
-// A line after more of it has come, and where the next one starts if this one has ended.
-#[derive(Drop, Clone, Debug, PartialEq, Eq)]
+// A line after more of it has come, where the next one starts, and whether this one has ended.
+#[derive(Clone, Copy, Debug, PartialEq, Eq)]
 pub struct Extension {
     pub line: Line,
-    pub next: Option<usize>,
+    pub next: usize,
+    pub ended: bool,
 }
 
 // A line with the bytes of a piece from `from` on, up to the line feed that ends it or the end of the piece. A place in the piece, and not
@@ -60,14 +66,16 @@ pub fn extended(line: Line, piece: &[u8], from: usize) -> Extension
     ensures { result ≡ extended_by line piece.now from }
 {
     let rest = &piece[from.min(piece.len())..];
-    match first_place(b'\n', rest) {
+    match first_place(LINE_FEED, rest) {
         Some(len) => Extension {
             line: line.with_bytes(&rest[..len]),
-            next: Some(from + len + 1),
+            next: from + len + 1,
+            ended: true,
         },
         None => Extension {
             line: line.with_bytes(rest),
-            next: None,
+            next: from + rest.len(),
+            ended: false,
         },
     }
 }

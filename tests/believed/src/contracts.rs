@@ -24,7 +24,7 @@ pub fn read(path: &str, text: &str) -> File {
             "use" => {
                 let path = import(&lines[at..]).replace("crate", own);
                 let again = line.starts_with("pub use ");
-                let path = if again {
+                let path = if again && !path.starts_with(own) {
                     format!("{own}::{path}")
                 } else {
                     path

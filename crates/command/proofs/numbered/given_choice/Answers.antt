@@ -50,7 +50,7 @@ returns-in_err-ok c =
 pub loop-value-preserved : goal.loop-value-preserved
 loop-value-preserved c =
     let byte = byte_is _ _ _ c.in_ok-ok.ensures.value c.try_from.ensures in
-    rw (c.push.ensures.items, byte.0) (copied_step c.loop-value.invariant c.loop-value-test.true byte.1)
+    rw (c.push.ensures, byte.0) (copied_step c.loop-value.invariant c.loop-value-test.true byte.1)
 
 pub returns : goal.returns
 returns c =

@@ -3,4 +3,4 @@ use Rattle.command.proofs.Choices.{Copied}
 use Rattle.command.proofs.numbered.given_choice.Given as goal
 
 abbrev pub invariant-loop-value : goal.invariant-loop-value
-invariant-loop-value l = Copied l.given l.value-index l.recipes.items
+invariant-loop-value l = Copied l.given l.value-index l.recipes

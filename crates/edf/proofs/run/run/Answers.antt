@@ -14,7 +14,7 @@ loop-m-init c = running_start _ _ _ _ c.requires.most (search rules)
 pub overflow_sub-tasks : goal.overflow_sub-tasks
 overflow_sub-tasks c =
     let found = sym c.in-Some.is ∙ c.first_pending.ensures in
-    omega (arith, c.left.ensures, found_pending c.loop-m.tasks _ _ c.loop-m.invariant.room c.in-Some.i found)
+    omega (arith, found_pending c.loop-m.tasks _ _ c.loop-m.invariant.room c.in-Some.i found)
 
 pub loop-m-preserved : goal.loop-m-preserved
 loop-m-preserved c =
@@ -23,7 +23,7 @@ loop-m-preserved c =
       | in-Some w ↦
           let found = sym w.in-Some.is ∙ c.first_pending.ensures in
           let inside = (found_pending c.loop-m.tasks _ _ h.room w.in-Some.i found).0 in
-          rw (w.entry-is, w.tasks-is, w.left.ensures)
+          rw (w.entry-is, w.tasks-is)
           (running_step h (Some w.in-Some.i) found c.loop-m-test.true
           (spent_one c.loop-m.tasks w.in-Some.i (omega (arith, inside, h.room))))
       | in-None w ↦

@@ -1,12 +1,11 @@
--- `jobs_of` meets its contract.
-use Rattle.std.proofs.Common.{rules}
-use Rattle.jobs.specs.Model.{no_job}
-use Rattle.week.specs.Record.{no_batch}
-use Rattle.planner.specs.Job.{job_from}
-use Rattle.planner.proofs.Mapped.{mapped}
+use native.Mathlib.Omega.{arith}
+use Rattle.arrays.proofs.Stores.{padding_step, padding_end}
 use Rattle.planner.proofs.job.jobs_of.Goals as goal
+
+pub loop-i-preserved : goal.loop-i-preserved
+loop-i-preserved c = padding_step c.loop-i.invariant (omega arith) c.job_of.ensures
 
 pub returns : goal.returns
 returns c =
-    let jobs = mapped _ _ (job_from c.args.week.opening) (λ a b q called. search rules) _ _ no_batch no_job c.map.ensures.items in
+    let jobs = padding_end c.loop-i.invariant (omega arith) in
     cc

@@ -3,13 +3,14 @@ use native.Mathlib.Omega.{arith}
 use mathlib.Core.Path.{sym, ap, ◌∙◌}
 use lib.ListN.{length}
 use borrow.Author.Tests.{tests}
-use Rattle.std.specs.Prelude.{Option, Some, None, MatchOption, IsSome}
+use Rattle.std.specs.Prelude.{◌+◌, Option, Some, None, MatchOption, IsSome}
 use Rattle.std.proofs.lemmas.List.{length_push}
-use Rattle.std.proofs.lemmas.Iterator.Consumers.{YieldsList-at, YieldsList-turn, YieldsList-end, count_from_yields_List}
+use Rattle.std.proofs.lemmas.Iterator.Consumers.{YieldsList-at, YieldsList-turn, YieldsList-end}
 use Rattle.sheet.specs.Frame.{frame_of}
-use Rattle.sheet.proofs.Lines.{lines_yielded, first_next}
+use Rattle.sheet.proofs.Lines.{first_next}
 use Rattle.sheet.proofs.Placed.{placed_bytes, lines_pass, first_read}
-use Rattle.sheet.proofs.Listed.{places_yielded, place_below, place_line, stored_next, stored_end}
+use Rattle.sheet.proofs.Listed.{places_yielded, place_below, place_next, place_line, stored_next, stored_full, stored_end}
+use Rattle.sheet.proofs.list.week_of.Goals.{then-place-lt-MAX_BATCHES, else-place-lt-MAX_BATCHES}
 use Rattle.sheet.proofs.list.week_of.Goals as goal
 
 some_of : {A : Type 0} (r : Option A) (P : Type 0) (Q : A → Type 0) → MatchOption r P Q → (P → ⊥) → IsSome r
@@ -30,10 +31,10 @@ batch_of-requires c =
     YieldsList-turn
     (YieldsList-at c.into_iter-place-iterator.ensures.into_iter_gives
     (places_yielded _ c.enumerate-place-items.ensures.count c.enumerate-place-items.ensures.source
-    c.take.ensures.count c.take.ensures.source (λ f a r q k. search (rules, tests))))
+    (λ f a r q k. search (rules, tests))))
     c.loop-place.yielded _ c.loop-place.yielded_by _ _ (c.in-Some.place, c.in-Some.line) c.in-Some.is c.next-in-loop-place.ensures.steps in
     ap frame_of (sym (place_line next turn))
-    ∙ ((lines_pass _).0 c.requires).batches _ (omega arith) (omega (arith, place_below next turn))
+    ∙ ((lines_pass _).0 c.requires).batches _ (omega arith) (place_below next turn)
 
 pub loop-place-preserved : goal.loop-place-preserved
 loop-place-preserved c =
@@ -44,10 +45,17 @@ loop-place-preserved c =
     YieldsList-turn
     (YieldsList-at c.into_iter-place-iterator.ensures.into_iter_gives
     (places_yielded _ c.enumerate-place-items.ensures.count c.enumerate-place-items.ensures.source
-    c.take.ensures.count c.take.ensures.source (λ f a r q k. search (rules, tests))))
+    (λ f a r q k. search (rules, tests))))
     c.loop-place.yielded _ c.loop-place.yielded_by _ _ (c.in-Some.place, c.in-Some.line) c.in-Some.is c.next-in-loop-place.ensures.steps in
-    rw (length_push c.loop-place.yielded (c.in-Some.place, c.in-Some.line))
-    (stored_next next turn c.loop-place.invariant c.batch_of.ensures)
+    rw (length_push c.loop-place.yielded (c.in-Some.place, c.in-Some.line)) (
+      ap (λ n. n + 1) (place_next next turn),
+      elim c.if-place-lt-MAX_BATCHES.branch [
+        | then-place-lt-MAX_BATCHES w ↦
+            rw w.batches-is (stored_next next turn c.loop-place.invariant.1 w.if-place-lt-MAX_BATCHES.true w.batch_of.ensures)
+        | else-place-lt-MAX_BATCHES w ↦
+            rw w.batches-is (stored_full next turn c.loop-place.invariant.1 w.if-place-lt-MAX_BATCHES.false)
+      ],
+    )
 
 pub word_at-requires : goal.word_at-requires
 word_at-requires c =
@@ -74,7 +82,6 @@ returns c =
     YieldsList-end
     (YieldsList-at c.into_iter-place-iterator.ensures.into_iter_gives
     (places_yielded _ c.enumerate-place-items.ensures.count c.enumerate-place-items.ensures.source
-    c.take.ensures.count c.take.ensures.source (λ f a r q k. search (rules, tests))))
+    (λ f a r q k. search (rules, tests))))
     c.loop-place.yielded _ c.loop-place.yielded_by _ _ c.in-None.is c.next-in-loop-place.ensures.steps in
-    let count = count_from_yields_List _ c.count.result c.count.ensures.ran (lines_yielded _ (λ f a r q k. search (rules, tests))) in
-    stored_end next c.loop-place.invariant end.1 (rw c.split_inclusive.ensures.rest at count) c.word_at.ensures c.word_at-2.ensures
+    stored_end next c.loop-place.invariant.0 c.loop-place.invariant.1 end.1 c.word_at.ensures c.word_at-2.ensures
