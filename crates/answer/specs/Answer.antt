@@ -17,7 +17,7 @@ unfoldable pub plan_text : ℕ → ChooseAnswer → List ℕ
 plan_text n plan =
     answer_by plan.refusal refusal_line (total_line (bytes "plan") plan.total ++ recipes_line (take n plan.choice))
 
--- the same of a plan or of what refuses, whatever numbers that has
+-- the same of a plan, or of what refuses by its numbers, whatever they are
 unfoldable pub told_plan : ℕ → Result Plan Refusal → List ℕ
 told_plan n (Ok plan) = total_line (bytes "plan") plan.total ++ recipes_line (take n plan.choice)
 told_plan n (Err refusal) = refusal_line refusal
@@ -37,7 +37,7 @@ run_text n ran =
 unfoldable pub ok_text : Refusal → List ℕ
 ok_text refusal = answer_by refusal refusal_line (line_of (bytes "ok") [])
 
--- the same of a call that changed the book or of what refuses, whatever numbers that has
+-- the same of a call that is done, or of what refuses by its numbers, whatever they are
 unfoldable pub told_call : {A : Type 0} → Result A Refusal → List ℕ
 told_call (Ok done) = line_of (bytes "ok") []
 told_call (Err refusal) = refusal_line refusal

@@ -2,7 +2,6 @@ use Rattle.std.proofs.Common.{rules, arith, ◌≡◌, ◌+◌, ◌-◌, ◌≤�
 use Rattle.text.proofs.Zeros.{appended, zeros_beyond}
 use Rattle.text.proofs.fixed.Bytes.extend.Goals as goal
 
--- src/lib.rt:44:5
 pub invariant_of-self : goal.invariant_of-self
 invariant_of-self g c =
     let s = c.self.inside in
