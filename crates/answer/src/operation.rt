@@ -4,7 +4,6 @@ ghost use Rattle.std.specs.Prelude.{◌≡◌, length};
 ghost use Rattle.planner.specs.Choose.{choose_answer, table_after};
 ghost use Rattle.planner.specs.Check.{check_answer};
 ghost use Rattle.planner.specs.Run.{run_answer, log_after};
-ghost use Rattle.text.specs.Line.{refusal_line};
 ghost use Rattle.answer.specs.Answer.{plan_text, told_plan, check_text, run_text, ok_text, told_call, no_command_text};
 
 use crate::fields::each_line;
@@ -16,21 +15,12 @@ use planner::run::run;
 use week::record::Week;
 use week::refusal::Refusal;
 
-// ‘A refusal is answered `refused N P R` and nothing else.’
-fn refused(refusal: Refusal) -> AnswerText
-    ensures { result ≡ refusal_line refusal }
-{
-    let mut text = AnswerText::new();
-    text.refusal_line(refusal);
-    text
-}
-
 // `choose`, `records`, `plan`: ‘`plan TOTAL`, then `recipes K K ..`’ of a plan for a list of n batches; or the refusal, whatever its numbers.
 #[tactic(auto, unfolding(crate::specs::Answer::told_plan))]
 pub fn plan_text(plan: Result<Plan, Refusal>, n: usize) -> AnswerText
     ensures { result ≡ told_plan n plan }
 {
-    plan.map_or_else(refused, |plan| {
+    plan.map_or_else(AnswerText::of_refusal, |plan| {
         let mut text = AnswerText::new();
         total_line(&mut text, b"plan", plan.total);
         each_line(&mut text, b"recipes", &plan.choice[..Week::places(n)]);
@@ -78,7 +68,7 @@ pub fn run_text(week: Week, choice: &[u8], log: &mut [u8]) -> AnswerText
 pub fn ok_text(called: Result<(), Refusal>) -> AnswerText
     ensures { result ≡ told_call called }
 {
-    called.map_or_else(refused, |()| {
+    called.map_or_else(AnswerText::of_refusal, |()| {
         let mut text = AnswerText::new();
         text.put(b"ok\n");
         text

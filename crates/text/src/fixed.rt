@@ -3,8 +3,8 @@ ghost use Rattle.std.specs.Prelude.{◌≡◌, ◌+◌, ◌≤◌, [], ◌∷◌
 
 use std::marker::Model;
 
-// At most `N` bytes. A clause sees the list of them. The kit's `ArrayVec` is no `Copy`, which a text, a line's choice and a command are to
-// be: a copy gives back every byte of the array, so that those beyond the list are 0.
+// At most `N` bytes. A clause sees the list of them. The kit's `ArrayVec` cannot be copied, and a text, a choice and a command can: since a
+// copy has to give back every byte of the array, those beyond the list are 0.
 #[derive(Clone, Copy, Debug, PartialEq, Eq)]
 pub struct Bytes<const N: usize> {
     bytes: [u8; N],

@@ -43,13 +43,21 @@ impl<const N: usize> Text<N> {
     }
 
     // What is answered of a refusal: its line, and nothing else.
+    pub fn of_refusal(refusal: Refusal) -> Self
+        requires { refusal_width ≤ N }
+        ensures { result ≡ refusal_line refusal }
+    {
+        let mut text = Text::new();
+        text.refusal_line(refusal);
+        text
+    }
+
+    // The same of what refuses in the code.
     pub fn refused(fault: Fault) -> Self
         requires { refusal_width ≤ N }
         ensures { result ≡ refusal_line (numbers fault) }
     {
-        let mut text = Text::new();
-        text.refusal_line(fault.into());
-        text
+        Text::of_refusal(fault.into())
     }
 
     // What a line of a run ends with, as " changes 4 idle 10". Two numbers, since a run, which has both, is not known here.
