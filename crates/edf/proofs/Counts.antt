@@ -1,21 +1,32 @@
 -- What is counted over a log is at most its length; and no entry of a job comes after the last.
-use Prim.Native.Nat.{ℕ, zero, suc, ◌-◌, ◌≤◌}
+use Prim.Native.Nat.{ℕ, zero, suc, ◌+◌, ◌-◌, ◌≤◌}
 use native.Mathlib.Omega.{arith}
 use mathlib.Core.Path.{◌≡◌, refl}
 use mathlib.Core.Bool.{Bool, true, false, cond, ◌&&◌, not}
 use mathlib.Core.List.{List, [], ◌∷◌}
 use lib.ListN.{length, take}
 use lib.Dec.{eqb}
+use Rattle.std.specs.Prelude.{◌==◌}
+use Rattle.std.specs.List.{count_by}
+use Rattle.std.proofs.lemmas.List.Recursion.{is_count_by}
+use Rattle.std.proofs.lemmas.List.Sums.{count_by-le-length}
 use Rattle.edf.specs.Run.{entries, changes_after, changes, up_to_last}
 
 one_at_most : (q : Bool) → cond q 1 0 ≤ 1
 one_at_most true = omega arith
 one_at_most false = omega arith
 
-pub entries_short : (j : ℕ) (log : List ℕ) → entries j log ≤ length log
+-- std's count of them
+pub entries_count : (j : ℕ) (log : List ℕ) → entries j log ≡ count_by (λ x. x == j) log
 unfolding entries
-entries_short j [] = omega arith
-entries_short j (x ∷ xs) = omega (arith, one_at_most (eqb x j), entries_short j xs)
+entries_count j = is_count_by (entries j) (λ x. x == j) refl (λ x xs. by_test (eqb x j) (entries j xs))
+  where
+    by_test : (q : Bool) (n : ℕ) → cond q 1 0 + n ≡ cond q (1 + n) n
+    by_test true n = refl
+    by_test false n = omega arith
+
+pub entries_short : (j : ℕ) (log : List ℕ) → entries j log ≤ length log
+entries_short j log = omega (arith, entries_count j log, count_by-le-length (λ x. x == j) log)
 
 changes_after_short : (p : ℕ) (log : List ℕ) → changes_after p log ≤ length log
 unfolding changes_after
