@@ -16,7 +16,7 @@ one_at_most : (q : Bool) → cond q 1 0 ≤ 1
 one_at_most true = omega arith
 one_at_most false = omega arith
 
--- std's count of them
+-- how many entries are j is std's count of them
 pub entries_count : (j : ℕ) (log : List ℕ) → entries j log ≡ count_by (λ x. x == j) log
 unfolding entries
 entries_count j = is_count_by (entries j) (λ x. x == j) refl (λ x xs. by_test (eqb x j) (entries j xs))
